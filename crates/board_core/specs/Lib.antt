@@ -3,6 +3,6 @@ pub mod Moments
 pub mod Calls
 pub mod Replay
 pub mod ReplayLaws
-pub mod Noted
+pub mod History
 pub mod Memory
 pub mod MemoryLaws
