@@ -6,3 +6,4 @@ pub mod ReplayLaws
 pub mod History
 pub mod Memory
 pub mod MemoryLaws
+pub mod Stops

@@ -3,9 +3,11 @@
 
 mod board;
 mod call;
+mod crash;
 mod file_board;
 mod history;
 mod memory_board;
+mod stop;
 
 pub use board::Board;
 pub use call::Call;

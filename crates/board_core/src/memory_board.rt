@@ -3,7 +3,9 @@ ghost use Rattle.std.specs.Prelude.{◌≡◌, ◌+◌, ◌-◌, ◌<◌, ◌≤
 
 use crate::board::Board;
 use crate::call::Call;
+use crate::crash::{all_sent, stopped};
 use crate::history::History;
+use crate::stop::Stop;
 use base_types::{Failed, List, Octets, OrMemory};
 use std::alloc::Global;
 
@@ -41,7 +43,11 @@ fn hand_out(input: &[u8], at: usize, piece: usize, buf: &mut [u8]) -> usize
 }
 
 impl MemoryBoard {
-    ghost use Rattle.board_core.specs.Memory.{IsNew, calls_of, failing_of, is_short, works_at};
+    ghost use Rattle.std.specs.Prelude.{slice_get};
+    ghost use Rattle.board_core.specs.Memory.{IsNew, contents, first_of, calls_of, failing_of, left_of, is_short, works_at};
+    ghost use Rattle.board_core.specs.Replay.{fresh, replay, Inside};
+    ghost use Rattle.board_core.specs.Stops.{kind_of, StopLeaves};
+    ghost use Rattle.board_core.specs.declared.call.Call.{Call};
 
     /// A board with this input and this image, of which no call was made.
     ///
@@ -84,6 +90,39 @@ impl MemoryBoard {
         ensures { result ≡ is_short self.now }
     {
         self.short
+    }
+
+    /// The bytes sent and the image that a stop inside a call leaves, by the call's number.
+    ///
+    /// The mode, below 4, says what becomes of each byte that is pending then, those of the call
+    /// included: 0, it is as at the last good sync; 1, as last put; 2, it is `a5`; 3, it is `5a`. A send
+    /// that is stopped has sent nothing in modes 0 and 2, and the first half of its bytes, rounded up,
+    /// in modes 1 and 3. Where no call has that number, what was sent and what a load gives now.
+    /// Refused for want of memory alone.
+    pub fn crash(&self, call: u64, mode: u8) -> OrMemory<(Octets, Octets)>
+        requires { mode < 4 }
+        ensures stopped { (c : Call) → slice_get (calls_of self.now) call ≡ Some c →
+            IfOk result (λ pair. StopLeaves (kind_of mode) (first_of self.now) (take call (calls_of self.now)) c pair.0 pair.1) }
+        ensures inside { (c : Call) → slice_get (calls_of self.now) call ≡ Some c →
+            IfOk result (λ pair. Inside (replay (fresh (first_of self.now)) (take call (calls_of self.now))) c pair.0 pair.1) }
+        ensures present { length (calls_of self.now) ≤ call →
+            IfOk result (λ pair. (pair.0 ≡ (contents self.now).sent) × (pair.1 ≡ (contents self.now).bytes)) }
+        ensures left { IfOk result (λ pair. left_of self.now call pair.0 pair.1) }
+    {
+        let calls = self.history.calls.as_slice();
+        let number = call as usize;
+        match self.history.calls.get(number) {
+            Some(inside) => {
+                let first = self.history.first.as_slice();
+                let stop = Stop::from_mode(mode);
+                stopped(self.alloc, first, &calls[..number], inside, stop)
+            }
+            None => {
+                let sent = all_sent(self.alloc, calls)?;
+                let image = Octets::from_slice(self.alloc, &self.history.image)?;
+                Ok((sent, image))
+            }
+        }
     }
 
     // Whether the next call is to work.
