@@ -110,7 +110,7 @@ may_left stop s image (Put at bytes ok ∷ cs) may fit none =
     let both = and_true (fits (length image) (Put at bytes ok)) (all_fit (length image) cs) fit in
     let outside = left_in_put-outside stop image at bytes ok (le_of (at + length bytes) (length image) both.0) in
     may_left stop (step s (Put at bytes ok)) (left_in_put stop image at bytes ok) cs (image, may, outside)
-        (subst (λ (n : ℕ). all_fit n cs ≡ true) (sym outside.length_kept) both.1) none
+    (subst (λ (n : ℕ). all_fit n cs ≡ true) (sym outside.length_kept) both.1) none
 may_left stop s image (Sync true ∷ cs) may fit none = absurd (let never : ⊥ = cc in never)
 may_left stop s image (Sync false ∷ cs) may fit none = may_left stop s image cs may fit none
 
@@ -125,8 +125,10 @@ inside_left : (stop : Stop) (s : State) (c : Call) (was sent image : List ℕ) �
 inside_left stop s (Read ok) was sent image may fit image_is sent_is = (sent_is ∙ append-nil s.sent, subst (λ (l : List ℕ). s.may l) (sym image_is) may)
 inside_left stop s (Send bytes ok) was sent image may fit image_is sent_is = ((let_out stop bytes, let_out-begins stop bytes, sent_is), subst (λ (l : List ℕ). s.may l) (sym image_is) may)
 inside_left stop s (Load ok) was sent image may fit image_is sent_is = (sent_is ∙ append-nil s.sent, subst (λ (l : List ℕ). s.may l) (sym image_is) may)
-inside_left stop s (Put at bytes ok) was sent image may fit image_is sent_is = (sent_is ∙ append-nil s.sent,
-    (was, may, subst (λ (l : List ℕ). SameOutside at (length bytes) was l) (sym image_is) (left_in_put-outside stop was at bytes ok (le_of (at + length bytes) (length was) fit))))
+inside_left stop s (Put at bytes ok) was sent image may fit image_is sent_is = (
+  sent_is ∙ append-nil s.sent,
+  (was, may, subst (λ (l : List ℕ). SameOutside at (length bytes) was l) (sym image_is) (left_in_put-outside stop was at bytes ok (le_of (at + length bytes) (length was) fit))),
+)
 inside_left stop s (Sync ok) was sent image may fit image_is sent_is = (sent_is ∙ append-nil s.sent, subst (λ (l : List ℕ). s.may l) (sym image_is) may)
 
 -- what a stop leaves is a moment inside its call
@@ -141,10 +143,10 @@ stops_inside stop first calls c sent image fit call_fits left =
     let long : length was ≡ length first = length-left_in_all stop s.bytes left.since since_fit ∙ here.measured in
     let state : replay (fresh first) calls ≡ replay s left.since = ap (λ (l : List Call). replay (fresh first) l) left.whole ∙ replay-append (fresh first) left.synced left.since in
     inside_left stop (replay (fresh first) calls) c was sent image
-        (subst (λ (t : State). t.may was) (sym state) (may_left stop s s.bytes left.since here.stands since_fit left.none_since))
-        (subst (λ (n : ℕ). fits n c ≡ true) (sym long) call_fits)
-        (left.image_is ∙ fold-append (left_in stop) s.bytes left.since (c ∷ []))
-        (left.sent_is ∙ ap (λ (l : List ℕ). l ++ begun_by stop c) (sym (replay-sent (fresh first) calls)))
+    (subst (λ (t : State). t.may was) (sym state) (may_left stop s s.bytes left.since here.stands since_fit left.none_since))
+    (subst (λ (n : ℕ). fits n c ≡ true) (sym long) call_fits)
+    (left.image_is ∙ fold-append (left_in stop) s.bytes left.since (c ∷ []))
+    (left.sent_is ∙ ap (λ (l : List ℕ). l ++ begun_by stop c) (sym (replay-sent (fresh first) calls)))
 
 -- a moment inside a call is left from that call on
 pub inside_from : (s : State) (cs : List Call) (k : ℕ) (c : Call) (sent image : List ℕ) → slice_get cs k ≡ Some c → Inside (replay s (take k cs)) c sent image → LeftFrom s cs k sent image
@@ -160,7 +162,7 @@ pub stop_leaves : (stop : Stop) (first : List ℕ) (calls : List Call) (c : Call
     → StopLeaves stop first calls c sent2 image4
 stop_leaves stop first calls c n sent sent2 image image2 image3 image4 last none is_sent is_sent2 is_image is_image2 is_image3 is_image4 =
     let at_sync : image2 ≡ (replay (fresh first) (take n calls)).bytes =
-        is_image2 ∙ ap (λ (l : List ℕ). fold (left_in AsPut) l (take n calls)) is_image ∙ sym (replay-bytes (fresh first) (take n calls)) in
+    is_image2 ∙ ap (λ (l : List ℕ). fold (left_in AsPut) l (take n calls)) is_image ∙ sym (replay-bytes (fresh first) (take n calls)) in
     let behind : image3 ≡ fold (left_in stop) image2 (drop n calls) = is_image3 ∙ ap (λ (l : List Call). fold (left_in stop) image2 l) (take_rest calls n) in
     record {
       synced = take n calls;

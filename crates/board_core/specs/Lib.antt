@@ -1,6 +1,7 @@
 pub mod Contents
 pub mod Moments
 pub mod Calls
+pub mod Faulted
 pub mod Replay
 pub mod ReplayLaws
 pub mod History

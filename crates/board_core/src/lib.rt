@@ -4,6 +4,7 @@
 mod board;
 mod call;
 mod crash;
+mod fault_counts;
 mod file_board;
 mod history;
 mod memory_board;

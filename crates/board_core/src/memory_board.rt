@@ -4,6 +4,7 @@ ghost use Rattle.std.specs.Prelude.{◌≡◌, ◌+◌, ◌-◌, ◌<◌, ◌≤
 use crate::board::Board;
 use crate::call::Call;
 use crate::crash::{all_sent, stopped};
+use crate::fault_counts::FaultCounts;
 use crate::history::History;
 use crate::stop::Stop;
 use base_types::{Failed, List, Octets, OrMemory};
@@ -22,9 +23,7 @@ pub struct MemoryBoard {
     history: History,
     piece: usize,
     failing: List<u64>,
-    read_faults: u64,
-    send_faults: u64,
-    disk_faults: u64,
+    counts: FaultCounts,
     short: bool,
     ghost piece_some: { 0 < piece },
     ghost within: { taken ≤ length input },
@@ -71,9 +70,7 @@ impl MemoryBoard {
             history,
             piece,
             failing,
-            read_faults: 0,
-            send_faults: 0,
-            disk_faults: 0,
+            counts: FaultCounts::new(),
             short: false,
         })
     }
@@ -175,19 +172,15 @@ impl Board for MemoryBoard {
     {
         let ok = self.works();
         match self.history.idle(Call::Read { ok }) {
-            Err(_) => {
-                self.short = true;
-                self.read_faults = self.read_faults.saturating_add(1);
-                Err(Failed)
-            }
             Ok(()) if ok => {
                 let count = hand_out(self.input.as_slice(), self.taken, self.piece, buf);
                 self.taken += count;
                 Ok(count)
             }
-            Ok(()) => {
-                self.read_faults = self.read_faults.saturating_add(1);
-                Err(Failed)
+            Ok(()) => Err(self.counts.read_failed()),
+            Err(_) => {
+                self.short = true;
+                Err(self.counts.read_failed())
             }
         }
     }
@@ -202,15 +195,11 @@ impl Board for MemoryBoard {
     {
         let ok = self.works();
         match self.history.send(self.alloc, bytes, ok) {
+            Ok(()) if ok => Ok(()),
+            Ok(()) => Err(self.counts.send_failed()),
             Err(_) => {
                 self.short = true;
-                self.send_faults = self.send_faults.saturating_add(1);
-                Err(Failed)
-            }
-            Ok(()) if ok => Ok(()),
-            Ok(()) => {
-                self.send_faults = self.send_faults.saturating_add(1);
-                Err(Failed)
+                Err(self.counts.send_failed())
             }
         }
     }
@@ -230,18 +219,14 @@ impl Board for MemoryBoard {
     {
         let ok = self.works();
         match self.history.idle(Call::Load { ok }) {
-            Err(_) => {
-                self.short = true;
-                self.disk_faults = self.disk_faults.saturating_add(1);
-                Err(Failed)
-            }
             Ok(()) if ok => {
                 self.history.copy_out(at, buf);
                 Ok(())
             }
-            Ok(()) => {
-                self.disk_faults = self.disk_faults.saturating_add(1);
-                Err(Failed)
+            Ok(()) => Err(self.counts.disk_failed()),
+            Err(_) => {
+                self.short = true;
+                Err(self.counts.disk_failed())
             }
         }
     }
@@ -257,15 +242,11 @@ impl Board for MemoryBoard {
     {
         let ok = self.works();
         match self.history.put(self.alloc, at, bytes, ok) {
+            Ok(()) if ok => Ok(()),
+            Ok(()) => Err(self.counts.disk_failed()),
             Err(_) => {
                 self.short = true;
-                self.disk_faults = self.disk_faults.saturating_add(1);
-                Err(Failed)
-            }
-            Ok(()) if ok => Ok(()),
-            Ok(()) => {
-                self.disk_faults = self.disk_faults.saturating_add(1);
-                Err(Failed)
+                Err(self.counts.disk_failed())
             }
         }
     }
@@ -279,15 +260,11 @@ impl Board for MemoryBoard {
     {
         let ok = self.works();
         match self.history.idle(Call::Sync { ok }) {
+            Ok(()) if ok => Ok(()),
+            Ok(()) => Err(self.counts.disk_failed()),
             Err(_) => {
                 self.short = true;
-                self.disk_faults = self.disk_faults.saturating_add(1);
-                Err(Failed)
-            }
-            Ok(()) if ok => Ok(()),
-            Ok(()) => {
-                self.disk_faults = self.disk_faults.saturating_add(1);
-                Err(Failed)
+                Err(self.counts.disk_failed())
             }
         }
     }

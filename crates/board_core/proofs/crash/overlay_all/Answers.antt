@@ -10,12 +10,12 @@ use Rattle.board_core.proofs.crash.overlay_all.Goals as goal
 pub overlay-requires : goal.overlay-requires
 overlay-requires c =
     subst (λ (n : ℕ). fits n c.call-item.result ≡ true) (sym c.loop-call.invariant.long)
-        (all_fit-item (length c.args.image.now.items) c.args.calls.now c.loop-call.call-index c.call-item.result c.loop-call-test.true c.call-item.is c.requires)
+    (all_fit-item (length c.args.image.now.items) c.args.calls.now c.loop-call.call-index c.call-item.result c.loop-call-test.true c.call-item.is c.requires)
 
 pub loop-call-preserved : goal.loop-call-preserved
 loop-call-preserved c =
     let fit = subst (λ (n : ℕ). fits n c.call-item.result ≡ true) (sym c.loop-call.invariant.long)
-        (all_fit-item (length c.args.image.now.items) c.args.calls.now c.loop-call.call-index c.call-item.result c.loop-call-test.true c.call-item.is c.requires) in
+    (all_fit-item (length c.args.image.now.items) c.args.calls.now c.loop-call.call-index c.call-item.result c.loop-call-test.true c.call-item.is c.requires) in
     let f = left_in c.args.stop in
     let done = take c.loop-call.call-index c.args.calls.now in
     let next = take_more c.args.calls.now c.loop-call.call-index c.call-item.result c.loop-call-test.true ∙ ap (λ (d : Call). done ++ d ∷ []) (sym c.call-item.is) in

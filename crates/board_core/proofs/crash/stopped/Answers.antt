@@ -8,14 +8,14 @@ use Rattle.board_core.proofs.crash.stopped.Goals as goal
 pub overlay_all-requires : goal.overlay_all-requires
 overlay_all-requires c =
     subst (λ (l : List ℕ). all_fit (length l) (take c.up_to_sync-synced.result c.args.calls.now) ≡ true) (sym c.in_ok-image.ensures.items)
-        (all_fit-parts (length c.args.first.now) c.up_to_sync-synced.result c.args.calls.now c.requires.fit).0
+    (all_fit-parts (length c.args.first.now) c.up_to_sync-synced.result c.args.calls.now c.requires.fit).0
 
 pub overlay_all-requires-2 : goal.overlay_all-requires-2
 overlay_all-requires-2 c =
     let long : length c.overlay_all.new.image.items ≡ length c.args.first.now = c.overlay_all.ensures.long ∙ ap length c.in_ok-image.ensures.items in
     subst (λ (l : List Call). all_fit (length c.overlay_all.new.image.items) l ≡ true) (sym (take_rest c.args.calls.now c.up_to_sync-synced.result))
-        (subst (λ (n : ℕ). all_fit n (drop c.up_to_sync-synced.result c.args.calls.now) ≡ true) (sym long)
-            (all_fit-parts (length c.args.first.now) c.up_to_sync-synced.result c.args.calls.now c.requires.fit).1)
+    (subst (λ (n : ℕ). all_fit n (drop c.up_to_sync-synced.result c.args.calls.now) ≡ true) (sym long)
+    (all_fit-parts (length c.args.first.now) c.up_to_sync-synced.result c.args.calls.now c.requires.fit).1)
 
 pub overlay-requires : goal.overlay-requires
 overlay-requires c =

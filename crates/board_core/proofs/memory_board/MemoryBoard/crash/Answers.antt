@@ -9,13 +9,13 @@ pub stopped-requires-clause-fit : goal.stopped-requires-clause-fit
 stopped-requires-clause-fit c =
     let h = c.args.self.now.history in
     subst (λ (l : List Call). all_fit (length c.as_slice-first.result.now) (take c.args.call l) ≡ true) (sym c.as_slice-calls.ensures)
-        (subst (λ (l : List ℕ). all_fit (length l) (take c.args.call h.calls) ≡ true) (sym c.as_slice-first.ensures)
-            (calls_before_fit h c.args.call c.in-Some.inside.now (sym c.in-Some.ensures.value)))
+    (subst (λ (l : List ℕ). all_fit (length l) (take c.args.call h.calls) ≡ true) (sym c.as_slice-first.ensures)
+    (calls_before_fit h c.args.call c.in-Some.inside.now (sym c.in-Some.ensures.value)))
 
 pub stopped-requires-clause-call_fits : goal.stopped-requires-clause-call_fits
 stopped-requires-clause-call_fits c =
     subst (λ (l : List ℕ). fits (length l) c.in-Some.inside.now ≡ true) (sym c.as_slice-first.ensures)
-        (stopped_fits c.args.self.now.history c.args.call c.in-Some.inside.now (sym c.in-Some.ensures.value))
+    (stopped_fits c.args.self.now.history c.args.call c.in-Some.inside.now (sym c.in-Some.ensures.value))
 
 pub returns-in-Some-clause-inside : goal.returns-in-Some-clause-inside
 returns-in-Some-clause-inside c = λ d is.
@@ -23,9 +23,9 @@ returns-in-Some-clause-inside c = λ d is.
     let x = c.in-Some.inside.now in
     let one = sym c.in-Some.ensures.value in
     if_ok c.stopped.result c.stopped.ensures (λ pair left.
-        crash_inside h c.args.call d is c.from_mode-stop.result pair.0 pair.1
-            (subst (λ (e : Call). StopLeaves c.from_mode-stop.result h.first (take c.args.call h.calls) e pair.0 pair.1) (only_one h c.args.call x d one is)
-                (crash_of h c.args.call x one c.from_mode-stop.result _ _ pair.0 pair.1 c.as_slice-first.ensures c.as_slice-calls.ensures left)))
+    crash_inside h c.args.call d is c.from_mode-stop.result pair.0 pair.1
+    (subst (λ (e : Call). StopLeaves c.from_mode-stop.result h.first (take c.args.call h.calls) e pair.0 pair.1) (only_one h c.args.call x d one is)
+    (crash_of h c.args.call x one c.from_mode-stop.result _ _ pair.0 pair.1 c.as_slice-first.ensures c.as_slice-calls.ensures left)))
 
 pub returns-in-Some-clause-left : goal.returns-in-Some-clause-left
 returns-in-Some-clause-left c =
@@ -33,8 +33,8 @@ returns-in-Some-clause-left c =
     let x = c.in-Some.inside.now in
     let one = sym c.in-Some.ensures.value in
     if_ok c.stopped.result c.stopped.ensures (λ pair left.
-        crash_left h c.args.call x one c.from_mode-stop.result pair.0 pair.1
-            (crash_of h c.args.call x one c.from_mode-stop.result _ _ pair.0 pair.1 c.as_slice-first.ensures c.as_slice-calls.ensures left))
+    crash_left h c.args.call x one c.from_mode-stop.result pair.0 pair.1
+    (crash_of h c.args.call x one c.from_mode-stop.result _ _ pair.0 pair.1 c.as_slice-first.ensures c.as_slice-calls.ensures left))
 
 pub returns-in_ok-image-in-None-clause-present : goal.returns-in_ok-image-in-None-clause-present
 returns-in_ok-image-in-None-clause-present c = λ past.
