@@ -8,3 +8,4 @@ pub mod History
 pub mod Memory
 pub mod MemoryLaws
 pub mod Stops
+pub mod Gates
