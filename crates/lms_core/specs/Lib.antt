@@ -5,3 +5,4 @@ pub mod Chains
 pub mod OneTime
 pub mod Tree
 pub mod Lms
+pub mod Layout

@@ -7,6 +7,7 @@
 #![tactic(auto)]
 
 pub use parameters::{OtsParams, lms_of, ots_of};
+pub use verify::{lms_signature_len, lms_verify};
 
 pub use chains::{chain, chain_step};
 pub use digits::{checksum, coef, signed_string};
