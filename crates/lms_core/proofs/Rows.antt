@@ -1,7 +1,7 @@
 -- What the rows of the tables have in common.
 use Rattle.std.proofs.Common.{◌≡◌, ℕ, refl, ◌-◌, ◌*◌, ◌/◌, ◌%◌, ◌^◌, ◌<◌, ◌≤◌, inl, inr, ap, arith}
 use Rattle.lms_core.specs.declared.parameters.OtsParams.{OtsParams}
-use Rattle.lms_core.specs.Parameters.{IsOtsRow, IsWidth}
+use Rattle.lms_core.specs.Parameters.{IsHeight, IsOtsRow, IsWidth}
 
 -- a row's width is one of the four
 pub width_of_row : (params : OtsParams) → IsOtsRow params → IsWidth params.w
@@ -23,3 +23,11 @@ sum_fits params n (inl e) h = let k : n ≤ 256 = rw e at h in rw e (omega (arit
 sum_fits params n (inr (inl e)) h = let k : n ≤ 384 = rw e at h in rw e (omega (arith, k))
 sum_fits params n (inr (inr (inl e))) h = let k : n ≤ 960 = rw e at h in rw e (omega (arith, k))
 sum_fits params n (inr (inr (inr e))) h = let k : n ≤ 8160 = rw e at h in rw e (omega (arith, k))
+
+-- the number of a tree's leaves, as a shift makes it
+pub leaf_count : (h : ℕ) → IsHeight h → 1 * 2 ^ h % 4294967296 ≡ 2 ^ h
+leaf_count h (inl e) = rw e refl
+leaf_count h (inr (inl e)) = rw e refl
+leaf_count h (inr (inr (inl e))) = rw e refl
+leaf_count h (inr (inr (inr (inl e)))) = rw e refl
+leaf_count h (inr (inr (inr (inr e)))) = rw e refl
