@@ -1,5 +1,5 @@
 -- What a step of a chain hashes, written part by part.
-use Rattle.std.proofs.Common.{◌≡◌, ℕ, ◌+◌, ◌<◌, ◌≤◌, List, [], ◌∷◌, ◌++◌, length, take, drop, sym, ◌∙◌, ap, arith, append_assoc, set, length-append}
+use Rattle.std.proofs.Common.{◌≡◌, ℕ, ◌<◌, ◌≤◌, List, [], ◌∷◌, ◌++◌, length, take, sym, ◌∙◌, ap, arith, append_assoc, set, length-append}
 use Rattle.lms_core.specs.Bytes.{u16_bytes, u32_bytes}
 use Rattle.std.proofs.lemmas.List.{take_all, take_at, take_more_set}
 

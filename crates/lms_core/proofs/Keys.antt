@@ -1,5 +1,5 @@
 -- The fields of a public key at their places.
-use Rattle.std.proofs.Common.{◌≡◌, ℕ, ◌+◌, ◌-◌, ◌^◌, ◌<◌, ◌≤◌, List, ◌++◌, length, get_or, [], subst, Option, Some, refl, sym, ◌∙◌, ap, arith}
+use Rattle.std.proofs.Common.{◌≡◌, ℕ, ◌^◌, ◌<◌, List, ◌++◌, length, get_or, [], subst, Some, refl, sym, ◌∙◌, ap, arith}
 use Rattle.std.specs.Prelude.{slice_range}
 use Rattle.std.proofs.lemmas.Bool.Decides.{nat_tests}
 use Rattle.std.proofs.lemmas.List.{append_assoc, length-append, take_all}
@@ -50,7 +50,7 @@ fields_of_key key known =
       lms_type = u32_at_bytes whole 0 key.lms_type (lms_type_fits key.lms_type key.height known.lms_known) first;
       ots_type = u32_at_bytes whole 4 key.ots_type (ots_type_fits key.ots_type key.params known.ots_known) second;
       identifier = third;
-      root = back_at (a ++ b ++ key.identifier) key.root 24 56 body_size (omega (arith, r))
+      root = back_at (a ++ b ++ key.identifier) key.root 24 56 body_size (omega (arith, r));
     }
 
 -- what spells a key has its fields at their places
@@ -69,8 +69,8 @@ spelled_at bytes fits size =
     let second : u32_bytes (u32_at bytes 4) ≡ slice_range bytes 4 8 = u32_bytes_at bytes 4 fits (omega arith) in
     let whole : slice_range bytes 0 56 ≡ bytes = take_all 56 bytes (omega arith) in
     sym (ap (λ (x : List ℕ). x ++ slice_range bytes 8 24 ++ slice_range bytes 24 56) (joined first second ∙ parts_join bytes 0 4 8 (omega arith) (omega arith))
-      ∙ ap (λ (x : List ℕ). x ++ slice_range bytes 24 56) (parts_join bytes 0 8 24 (omega arith) (omega arith))
-      ∙ parts_join bytes 0 24 56 (omega arith) (omega arith) ∙ whole)
+    ∙ ap (λ (x : List ℕ). x ++ slice_range bytes 24 56) (parts_join bytes 0 8 24 (omega arith) (omega arith))
+    ∙ parts_join bytes 0 24 56 (omega arith) (omega arith) ∙ whole)
 
 -- keys are equal where their fields are
 pub same_key : (a b : PublicKey) → a.lms_type ≡ b.lms_type → a.ots_type ≡ b.ots_type → a.height ≡ b.height → a.params ≡ b.params → a.identifier ≡ b.identifier → a.root ≡ b.root → a ≡ b

@@ -2,7 +2,7 @@
 use Rattle.std.proofs.Common.{◌≡◌, ℕ, ◌+◌, ◌-◌, ◌^◌, ◌<◌, ◌≤◌, List, ◌++◌, length, take, drop, get_or, refl, sym, inl, inr, ◌⊎◌, ◌∙◌, ap, arith}
 use Rattle.std.specs.Prelude.{slice_range}
 use Rattle.std.specs.Int.{w32, from_be_bytes}
-use Rattle.std.proofs.lemmas.List.{drop_at, take_all, take_at, take-append-drop, length-take, length-take-le, length-drop, drop-drop, get_or-drop, get_or-take, get_or_past, drop-take, take-take, append_assoc}
+use Rattle.std.proofs.lemmas.List.{drop_at, take_all, take_at, take-append-drop, length-take, length-take-le, length-drop, drop-drop, get_or-drop, get_or-take, get_or_past, drop-take, take-take}
 use Rattle.std.proofs.lemmas.Nat.{be_bytes_4, from_be_bytes-to_be_bytes_4}
 use Rattle.std.proofs.lemmas.Bool.{cases_lt}
 use Rattle.lms_core.specs.Bytes.{u32_at, u32_bytes}

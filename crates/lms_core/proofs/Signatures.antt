@@ -1,16 +1,16 @@
 -- The parts of a signature at their places, and what spells them.
-use Rattle.std.proofs.Common.{◌≡◌, ℕ, ◌+◌, ◌-◌, ◌*◌, ◌^◌, ◌<◌, ◌≤◌, List, [], ◌++◌, length, take, drop, get_or, subst, inl, inr, refl, sym, ◌∙◌, ap, arith}
+use Rattle.std.proofs.Common.{◌≡◌, ℕ, ◌+◌, ◌*◌, ◌^◌, ◌<◌, ◌≤◌, List, [], ◌++◌, length, take, drop, get_or, subst, inl, inr, refl, sym, ◌∙◌, ap, arith}
 use Rattle.std.specs.Prelude.{slice_range}
 use Rattle.std.specs.List.{concat}
 use Rattle.std.proofs.lemmas.List.{append_assoc, drop_at, length-append, length-drop, take-append-drop}
 use Rattle.lms_core.specs.declared.public_key.PublicKey.{PublicKey}
-use Rattle.lms_core.specs.Bytes.{u32_at, u32_bytes}
+use Rattle.lms_core.specs.Bytes.{u32_bytes}
 use Rattle.lms_core.specs.Parameters.{IsHeight, lms_table, ots_table}
 use Rattle.lms_core.specs.Layout.{HasForm, chains_end, hashes_in, signature_at}
 use Rattle.lms_core.specs.Lms.{Fits, IsKnown, LmsValid, Signature, Spells, root_candidate, signature_bytes, signature_length}
 use Rattle.lms_core.proofs.Hashes.{AllHashes-hashes_in, concat-hashes_in, hashes_in-concat, length-concat, length-hashes_in}
 use Rattle.lms_core.proofs.Keys.{height_of, lms_type_fits, one_key, ots_type_fits}
-use Rattle.lms_core.proofs.Parts.{back_at, length-part, part_at, parts_join, u32_at_bytes, u32_bytes_at}
+use Rattle.lms_core.proofs.Parts.{length-part, part_at, parts_join, u32_at_bytes, u32_bytes_at}
 
 -- ---- what is read is spelled
 
@@ -32,7 +32,7 @@ fits_at key bytes form =
       chain_count = length-hashes_in key.params.p (slice_range bytes 40 (chains_end key));
       chain_lengths = AllHashes-hashes_in key.params.p (slice_range bytes 40 (chains_end key)) (chains_size key bytes size);
       path_length = length-hashes_in key.height (drop (chains_end key + 4) bytes);
-      node_lengths = AllHashes-hashes_in key.height (drop (chains_end key + 4) bytes) (path_size key bytes size)
+      node_lengths = AllHashes-hashes_in key.height (drop (chains_end key + 4) bytes) (path_size key bytes size);
     }
 
 -- six parts, of which the second to the fourth stand together, are one behind the other
@@ -50,10 +50,10 @@ unfolding signature_at
 spelled_by key bytes fits form =
     let size = form.size in
     six_parts _ _ _ _ _ _ bytes (chains_end key) (chains_end key + 4) (omega arith) refl (omega arith)
-      (u32_bytes_at bytes 0 fits (omega arith)) (u32_bytes_at bytes 4 fits (omega arith)) refl
-      (concat-hashes_in key.params.p (slice_range bytes 40 (chains_end key)) (chains_size key bytes size))
-      (u32_bytes_at bytes (chains_end key) fits (omega arith))
-      (concat-hashes_in key.height (drop (chains_end key + 4) bytes) (path_size key bytes size))
+    (u32_bytes_at bytes 0 fits (omega arith)) (u32_bytes_at bytes 4 fits (omega arith)) refl
+    (concat-hashes_in key.params.p (slice_range bytes 40 (chains_end key)) (chains_size key bytes size))
+    (u32_bytes_at bytes (chains_end key) fits (omega arith))
+    (concat-hashes_in key.height (drop (chains_end key + 4) bytes) (path_size key bytes size))
 
 -- ---- what is spelled is read
 
@@ -103,20 +103,20 @@ parts_at key a b c d e f bytes is =
       c_at = ap (λ (x : List ℕ). slice_range x 8 40) by_c ∙ part_at (a ++ b) c (d ++ e ++ f) 8 40 at_c (omega arith);
       d_at = ap (λ (x : List ℕ). slice_range x 40 (chains_end key)) by_d ∙ part_at (a ++ b ++ c) d (e ++ f) 40 (chains_end key) at_d (omega arith);
       e_at = ap (λ (x : List ℕ). slice_range x (chains_end key) (chains_end key + 4)) by_e ∙ part_at (a ++ b ++ c ++ d) e f (chains_end key) (chains_end key + 4) at_e (omega arith);
-      f_at = ap (drop (chains_end key + 4)) by_f ∙ drop_at (a ++ b ++ c ++ d ++ e) f (chains_end key + 4) at_f
+      f_at = ap (drop (chains_end key + 4)) by_f ∙ drop_at (a ++ b ++ c ++ d ++ e) f (chains_end key + 4) at_f;
     }
 
 -- the parts of a signature, each as bytes
 spelled_parts : (key : PublicKey) (parts : Signature) → Fits parts key → IsSpelled key (u32_bytes parts.leaf) (u32_bytes parts.ots_type) parts.randomizer (concat parts.chains) (u32_bytes parts.lms_type) (concat parts.path) (signature_bytes parts)
 spelled_parts key parts fits = record {
-    a_size = refl;
-    b_size = refl;
-    c_size = fits.randomizer_length;
-    d_size = length-concat parts.chains fits.chain_lengths ∙ ap (λ n. 32 * n) fits.chain_count;
-    e_size = refl;
-    f_size = length-concat parts.path fits.node_lengths ∙ ap (λ n. 32 * n) fits.path_length;
-    whole = refl
-  }
+  a_size = refl;
+  b_size = refl;
+  c_size = fits.randomizer_length;
+  d_size = length-concat parts.chains fits.chain_lengths ∙ ap (λ n. 32 * n) fits.chain_count;
+  e_size = refl;
+  f_size = length-concat parts.path fits.node_lengths ∙ ap (λ n. 32 * n) fits.path_length;
+  whole = refl;
+}
 
 -- a leaf of a tree of known height fits its four bytes
 leaf_fits : (h n : ℕ) → IsHeight h → n < 2 ^ h → n < 2 ^ 32
@@ -139,8 +139,14 @@ unfolding signature_at
 read_parts key parts bytes known fits spelled =
     let is = spelled_parts key parts fits in
     let at = parts_at key _ _ _ _ _ _ bytes (record {
-        a_size = is.a_size; b_size = is.b_size; c_size = is.c_size; d_size = is.d_size; e_size = is.e_size; f_size = is.f_size; whole = spelled
-      }) in
+      a_size = is.a_size;
+      b_size = is.b_size;
+      c_size = is.c_size;
+      d_size = is.d_size;
+      e_size = is.e_size;
+      f_size = is.f_size;
+      whole = spelled;
+    }) in
     let height = height_of key.lms_type key.height known.lms_known in
     let ots_known = ap ots_table fits.same_ots_type ∙ known.ots_known in
     let lms_known = ap lms_table fits.same_lms_type ∙ known.lms_known in
@@ -149,15 +155,15 @@ read_parts key parts bytes known fits spelled =
     let lms_type = u32_at_bytes bytes (chains_end key) parts.lms_type (lms_type_fits parts.lms_type key.height lms_known) at.e_at in
     record {
       form = record {
-          size = at.size;
-          leaf = rw leaf fits.leaf_below;
-          ots_type = ots_type ∙ fits.same_ots_type;
-          lms_type = lms_type ∙ fits.same_lms_type
-        };
+        size = at.size;
+        leaf = rw leaf fits.leaf_below;
+        ots_type = ots_type ∙ fits.same_ots_type;
+        lms_type = lms_type ∙ fits.same_lms_type;
+      };
       same = same_parts (signature_at key bytes) parts leaf ots_type at.c_at
-        (ap (hashes_in key.params.p) at.d_at ∙ hashes_in-concat key.params.p parts.chains fits.chain_count fits.chain_lengths)
-        lms_type
-        (ap (hashes_in key.height) at.f_at ∙ hashes_in-concat key.height parts.path fits.path_length fits.node_lengths)
+          (ap (hashes_in key.params.p) at.d_at ∙ hashes_in-concat key.params.p parts.chains fits.chain_count fits.chain_lengths)
+          lms_type
+          (ap (hashes_in key.height) at.f_at ∙ hashes_in-concat key.height parts.path fits.path_length fits.node_lengths);
     }
 
 -- ---- validity, by what is read
@@ -165,13 +171,13 @@ read_parts key parts bytes known fits spelled =
 -- a signature of the form that leads to the key's root is valid
 pub valid_at : (public message bytes : List ℕ) (key : PublicKey) → ((i : ℕ) → get_or bytes i 0 < 256) → Spells public key → HasForm key bytes → root_candidate key message (signature_at key bytes) ≡ key.root → LmsValid public message bytes
 valid_at public message bytes key fits spells form root = record {
-    key = key;
-    public_key = spells;
-    parts = signature_at key bytes;
-    fits = fits_at key bytes form;
-    spelled = spelled_by key bytes fits form;
-    root = root
-  }
+  key = key;
+  public_key = spells;
+  parts = signature_at key bytes;
+  fits = fits_at key bytes form;
+  spelled = spelled_by key bytes fits form;
+  root = root;
+}
 
 -- a valid signature has the form, and leads to the key's root
 pub record IsAccepted (key : PublicKey) (message bytes : List ℕ) : Type 0 where
@@ -185,5 +191,5 @@ accepted public message bytes key spells valid =
     let P : PublicKey → Type 0 = λ k. IsAccepted k message bytes in
     subst P same (record {
       form = read.form;
-      root = ap (root_candidate valid.key message) read.same ∙ valid.root
+      root = ap (root_candidate valid.key message) read.same ∙ valid.root;
     })

@@ -1,5 +1,5 @@
 -- A chain, one step more at a time.
-use Rattle.std.proofs.Common.{◌≡◌, ℕ, ◌+◌, ◌-◌, ◌≤◌, List, refl, ap, arith, add-one}
+use Rattle.std.proofs.Common.{◌≡◌, ℕ, ◌+◌, ◌-◌, ◌≤◌, List, refl, arith, add-one}
 use Rattle.lms_core.specs.Chains.{chain, chain_step}
 
 -- no step leaves the start

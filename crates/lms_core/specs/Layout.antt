@@ -23,10 +23,10 @@ pub record HasForm (key : PublicKey) (bytes : List ℕ) : Type 0 where
 -- the parts of a signature under the key, read at their places
 unfoldable pub signature_at : PublicKey → List ℕ → Signature
 signature_at key bytes = record {
-    leaf = u32_at bytes 0;
-    ots_type = u32_at bytes 4;
-    randomizer = slice_range bytes 8 40;
-    chains = hashes_in key.params.p (slice_range bytes 40 (chains_end key));
-    lms_type = u32_at bytes (chains_end key);
-    path = hashes_in key.height (drop (chains_end key + 4) bytes)
-  }
+  leaf = u32_at bytes 0;
+  ots_type = u32_at bytes 4;
+  randomizer = slice_range bytes 8 40;
+  chains = hashes_in key.params.p (slice_range bytes 40 (chains_end key));
+  lms_type = u32_at bytes (chains_end key);
+  path = hashes_in key.height (drop (chains_end key + 4) bytes);
+}

@@ -31,5 +31,5 @@ unfoldable pub key_candidate : List ℕ → ℕ → OtsParams → List ℕ → L
 key_candidate identifier q params digest ys =
     let string = signed_string digest params.w params.ls in
     sha256 (identifier ++ u32_bytes q ++ public_key_domain
-        ++ concat (map (λ i. chain_end identifier q params.w string i (slice_index_or ys i []))
-            (range_with_len 0 params.p)))
+    ++ concat (map (λ i. chain_end identifier q params.w string i (slice_index_or ys i []))
+    (range_with_len 0 params.p)))

@@ -6,13 +6,12 @@
 //! of the tree. Nothing here takes memory.
 #![tactic(auto)]
 
-pub use parameters::{OtsParams, lms_of, ots_of};
-pub use verify::{lms_signature_len, lms_verify};
-
 pub use chains::{chain, chain_step};
 pub use digits::{checksum, coef, signed_string};
 pub use one_time::message_hash;
+pub use parameters::{OtsParams, lms_of, ots_of};
 pub use tree::{inner_hash, leaf_hash};
+pub use verify::{lms_signature_len, lms_verify};
 
 mod bytes;
 mod chains;

@@ -13,11 +13,17 @@ use sha2::{Digest, Sha256};
 
 // D_MESG and D_PBLC (RFC 8554, 7.1)
 const MESSAGE_DOMAIN: [u8; 2] = [0x81, 0x81];
+
 const PUBLIC_KEY_DOMAIN: [u8; 2] = [0x80, 0x80];
 
 /// Q, the hash of a message to be signed at leaf `q`, H(I || u32str(q) || D_MESG || C || message)
 /// (RFC 8554, 4.5).
-pub fn message_hash(identifier: &[u8; 16], q: u32, randomizer: &[u8; 32], message: &[u8]) -> [u8; 32]
+pub fn message_hash(
+    identifier: &[u8; 16],
+    q: u32,
+    randomizer: &[u8; 32],
+    message: &[u8],
+) -> [u8; 32]
     ensures { result ≡ message_hash identifier.now q randomizer.now message.now }
 {
     let mut hasher = Sha256::new();

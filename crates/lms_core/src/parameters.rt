@@ -21,8 +21,16 @@ pub fn ots_of(code: u32) -> Option<OtsParams>
     ensures row { IfSome result (λ params. IsOtsRow params) }
 {
     match code {
-        1 => Some(OtsParams { w: 1, p: 265, ls: 7 }),
-        2 => Some(OtsParams { w: 2, p: 133, ls: 6 }),
+        1 => Some(OtsParams {
+            w: 1,
+            p: 265,
+            ls: 7,
+        }),
+        2 => Some(OtsParams {
+            w: 2,
+            p: 133,
+            ls: 6,
+        }),
         3 => Some(OtsParams { w: 4, p: 67, ls: 4 }),
         4 => Some(OtsParams { w: 8, p: 34, ls: 0 }),
         _ => None,

@@ -9,6 +9,7 @@ use sha2::{Digest, Sha256};
 
 // D_LEAF and D_INTR (RFC 8554, 7.1)
 const LEAF_DOMAIN: [u8; 2] = [0x82, 0x82];
+
 const INNER_DOMAIN: [u8; 2] = [0x83, 0x83];
 
 /// A leaf, H(I || u32str(r) || D_LEAF || K), at node number `node`, of the one-time public key `key`

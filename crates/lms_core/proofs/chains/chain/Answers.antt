@@ -1,4 +1,4 @@
-use Rattle.std.proofs.Common.{◌≡◌, ◌-◌, ◌+◌, ◌≤◌, ◌++◌, ◌∷◌, List, ℕ, length, take, set, sym, ◌∙◌, ap, arith}
+use Rattle.std.proofs.Common.{◌≡◌, ◌-◌, ◌++◌, length, sym, ◌∙◌, ap, arith}
 use Rattle.lms_core.specs.Bytes.{u16_bytes, u32_bytes}
 use Rattle.lms_core.specs.Chains.{chain_step}
 use Rattle.sha2.specs.Sha256.{sha256}
@@ -14,7 +14,7 @@ loop-j-init c =
     record {
       size = input_length c.step_input-input.result _ c.args.start.now c.args.from front_size value_size c.step_input-input.ensures;
       steps = sym (chain_none c.args.identifier.now c.args.q c.args.i c.args.from (c.args.from - c.args.from) c.args.start.now (omega arith));
-      front = same_front _ _ c.args.start.now c.args.from front_size c.step_input-input.ensures
+      front = same_front _ _ c.args.start.now c.args.from front_size c.step_input-input.ensures;
     }
 
 pub loop-j-preserved : goal.loop-j-preserved
@@ -27,5 +27,5 @@ loop-j-preserved c =
     record {
       size = c.place.ensures.length;
       steps = hashed ∙ ap (chain_step c.args.identifier.now c.args.q c.args.i c.loop-j.j) c.loop-j.invariant.steps ∙ sym more;
-      front = same_front c.place.new.input _ c.loop-j.value c.loop-j.j front_size input
+      front = same_front c.place.new.input _ c.loop-j.value c.loop-j.j front_size input;
     }

@@ -8,5 +8,5 @@ abbrev pub invariant-loop-j : goal.invariant-loop-j
 invariant-loop-j l = record {
   size : length l.input ≡ 55;
   steps : l.value ≡ chain l.identifier l.q l.i l.from (l.j - l.from) l.start;
-  front : take 22 l.input ≡ l.identifier ++ u32_bytes l.q ++ u16_bytes l.i
+  front : take 22 l.input ≡ l.identifier ++ u32_bytes l.q ++ u16_bytes l.i;
 }

@@ -1,7 +1,7 @@
-use Rattle.std.proofs.Common.{◌≡◌, ◌+◌, ◌-◌, ◌/◌, ◌^◌, ℕ, sym, ◌∙◌, ap, arith}
+use Rattle.std.proofs.Common.{◌≡◌, ◌+◌, ◌-◌, ◌/◌, ◌^◌, sym, ◌∙◌, ap, arith}
 use Rattle.lms_core.specs.Digits.{coef}
 use Rattle.lms_core.proofs.Rows.{width_of_row, shifted_one}
-use Rattle.lms_core.proofs.Sums.{shortfall, shortfall_more, bound_more, checksum_is}
+use Rattle.lms_core.proofs.Sums.{shortfall_more, bound_more, checksum_is}
 use Rattle.lms_core.proofs.digits.checksum.Goals as goal
 
 pub loop-i-preserved : goal.loop-i-preserved
@@ -11,7 +11,7 @@ loop-i-preserved c =
     let digit = c.from.ensures ∙ c.coef.ensures.digit in
     rw (largest, digit) record {
       total = ap (λ n. n + (2 ^ c.args.params.w - 1 - coef c.args.digest.now c.loop-i.i c.args.params.w)) c.loop-i.invariant.total ∙ sym more;
-      bound = bound_more c.loop-i.sum c.loop-i.i (2 ^ c.args.params.w - 1) _ c.loop-i.invariant.bound
+      bound = bound_more c.loop-i.sum c.loop-i.i (2 ^ c.args.params.w - 1) _ c.loop-i.invariant.bound;
     }
 
 pub returns : goal.returns

@@ -6,5 +6,5 @@ use Rattle.lms_core.proofs.digits.checksum.Given as goal
 abbrev pub invariant-loop-i : goal.invariant-loop-i
 invariant-loop-i l = record {
   total : l.sum ≡ shortfall l.digest l.w (2 ^ l.w - 1) l.i;
-  bound : l.sum ≤ l.i * (2 ^ l.w - 1)
+  bound : l.sum ≤ l.i * (2 ^ l.w - 1);
 }

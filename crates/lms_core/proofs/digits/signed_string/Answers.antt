@@ -1,4 +1,4 @@
-use Rattle.std.proofs.Common.{◌≡◌, ◌++◌, refl, ◌∙◌, arith}
+use Rattle.std.proofs.Common.{◌≡◌, refl, ◌∙◌, arith}
 use Rattle.lms_core.specs.Bytes.{u16_bytes}
 use Rattle.lms_core.proofs.Sums.{two_parts}
 use Rattle.lms_core.proofs.digits.signed_string.Goals as goal

@@ -1,4 +1,4 @@
-use Rattle.std.proofs.Common.{◌≡◌, ◌+◌, ◌-◌, ◌*◌, ◌/◌, List, ℕ, length, drop, sym, ◌∙◌, ap, arith}
+use Rattle.std.proofs.Common.{◌+◌, ◌-◌, ◌*◌, ◌/◌, List, ℕ, length, drop, sym, ◌∙◌, ap, arith}
 use Rattle.lms_core.specs.Layout.{hashes_in}
 use Rattle.lms_core.specs.Tree.{root_above, parent_hash}
 use Rattle.lms_core.proofs.Hashes.{hashes_in-next}

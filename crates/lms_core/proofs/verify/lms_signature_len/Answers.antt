@@ -1,4 +1,4 @@
-use Rattle.std.proofs.Common.{◌≡◌, Some, sym, ◌∙◌, ap}
+use Rattle.std.proofs.Common.{Some, sym, ◌∙◌, ap}
 use Rattle.lms_core.proofs.Signatures.{accepted}
 use Rattle.lms_core.proofs.verify.lms_signature_len.Goals as goal
 

@@ -1,4 +1,4 @@
-use Rattle.std.proofs.Common.{◌≡◌, ◌^◌, ◌*◌, ◌/◌, ◌%◌, ◌+◌, ◌-◌, drop, length, refl, ◌∙◌, arith}
+use Rattle.std.proofs.Common.{◌≡◌, ◌/◌, ◌+◌, drop, length, refl, arith}
 use Rattle.std.proofs.lemmas.List.{take_rest}
 use Rattle.lms_core.specs.Lms.{root_candidate}
 use Rattle.lms_core.specs.Layout.{chains_end, signature_at}

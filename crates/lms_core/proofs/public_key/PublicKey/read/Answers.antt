@@ -1,6 +1,5 @@
-use Rattle.std.proofs.Common.{◌≡◌, ℕ, ◌+◌, ◌-◌, ◌<◌, None, Some, length, get_or, sym, ◌∙◌, ap, arith}
+use Rattle.std.proofs.Common.{◌≡◌, ℕ, ◌<◌, Some, length, get_or, sym, ◌∙◌, ap, arith}
 use Rattle.lms_core.specs.Parameters.{ots_table}
-use Rattle.lms_core.specs.Lms.{Spells}
 use Rattle.lms_core.proofs.Keys.{fields_at, one_key, spelled_at}
 use Rattle.lms_core.proofs.Parts.{length-part}
 use Rattle.lms_core.proofs.public_key.PublicKey.read.Goals as goal
@@ -19,12 +18,12 @@ returns-clause-found c =
     let fits : (i : ℕ) → get_or c.args.bytes.now i 0 < 256 = λ i. omega (arith, c.type_inv.bytes i) in
     record {
       known = record {
-          lms_known = sym c.in_ok-height.ensures.table;
-          ots_known = sym c.in_ok-params.ensures.table;
-          identifier_length = ap length c.array_at.ensures ∙ identifier;
-          root_length = ap length c.array_at-2.ensures ∙ root
-        };
-      spelled = rw (c.read_u32-lms_type.ensures, c.read_u32-ots_type.ensures, c.array_at.ensures, c.array_at-2.ensures) (spelled_at c.args.bytes.now fits size)
+        lms_known = sym c.in_ok-height.ensures.table;
+        ots_known = sym c.in_ok-params.ensures.table;
+        identifier_length = ap length c.array_at.ensures ∙ identifier;
+        root_length = ap length c.array_at-2.ensures ∙ root;
+      };
+      spelled = rw (c.read_u32-lms_type.ensures, c.read_u32-ots_type.ensures, c.array_at.ensures, c.array_at-2.ensures) (spelled_at c.args.bytes.now fits size);
     }
 
 pub returns-clause-only : goal.returns-clause-only
