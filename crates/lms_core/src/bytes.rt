@@ -14,7 +14,7 @@ pub(crate) fn array_at<const N: usize>(bytes: &[u8], place: usize) -> [u8; N]
 }
 
 /// The number that the four bytes from a place on spell, high byte first.
-pub(crate) fn read_u32(bytes: &[u8], place: usize) -> u32
+pub fn read_u32(bytes: &[u8], place: usize) -> u32
     requires { place + 4 ≤ length bytes.now }
     ensures { result ≡ u32_at bytes.now place }
 {

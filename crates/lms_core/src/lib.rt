@@ -6,6 +6,7 @@
 //! of the tree. Nothing here takes memory.
 #![tactic(auto)]
 
+pub use bytes::read_u32;
 pub use chains::{chain, chain_step};
 pub use digits::{checksum, coef, signed_string};
 pub use one_time::message_hash;
