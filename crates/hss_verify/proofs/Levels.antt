@@ -55,10 +55,10 @@ valid_from public message signature levels fits key known counted =
       last = chain.last;
       link_count = omega arith;
       spelled = number_and_rest signature fits counted.room
-        ∙ ap (λ (x : List ℕ). u32_bytes (u32_at signature 0) ++ x) chain.spelled
-        ∙ ap (λ n. u32_bytes n ++ (flat_map link_bytes chain.links ++ chain.last)) number
-        ∙ sym (append_assoc (u32_bytes (length chain.links)) (flat_map link_bytes chain.links) chain.last);
-      signed = subst P (top_at public key) chain.signed
+          ∙ ap (λ (x : List ℕ). u32_bytes (u32_at signature 0) ++ x) chain.spelled
+          ∙ ap (λ n. u32_bytes n ++ (flat_map link_bytes chain.links ++ chain.last)) number
+          ∙ sym (append_assoc (u32_bytes (length chain.links)) (flat_map link_bytes chain.links) chain.last);
+      signed = subst P (top_at public key) chain.signed;
     }
 
 pub counted : (public message signature : List ℕ) (levels : ℕ) → levels ≡ u32_at public 0 → HssValid public message signature → IsCounted public message signature levels
@@ -76,10 +76,10 @@ counted public message signature levels known valid =
       room = omega arith;
       count = number ∙ omega arith;
       chain = record {
-          links = valid.links;
-          last = valid.last;
-          link_count = omega arith;
-          spelled = behind_number signature behind (length valid.links) spelled;
-          signed = subst P (sym (top_at public key)) valid.signed
-        }
+        links = valid.links;
+        last = valid.last;
+        link_count = omega arith;
+        spelled = behind_number signature behind (length valid.links) spelled;
+        signed = subst P (sym (top_at public key)) valid.signed;
+      };
     }

@@ -29,26 +29,26 @@ pub record IsLinked (key : List ℕ) (n : ℕ) (bytes message : List ℕ) : Type
 linked_by : (key : List ℕ) (n : ℕ) (bytes message : List ℕ) (links : List Link) (last : List ℕ) → 0 < n → length links ≡ n → bytes ≡ flat_map link_bytes links ++ last → IsSignedBy key links last message → IsLinked key n bytes message
 linked_by key n bytes message [] last some count spelled signed = absurd (omega arith)
 linked_by key n bytes message (link ∷ links) last some count spelled signed = record {
-    signature = link.signature;
-    next = link.key;
-    rest = flat_map link_bytes links ++ last;
-    spelled = spelled ∙ simp append_assoc;
-    next_size = signer_size link.key links last message signed.1;
-    valid = signed.0;
-    more = record { links = links; last = last; link_count = omega arith; spelled = refl; signed = signed.1 }
-  }
+  signature = link.signature;
+  next = link.key;
+  rest = flat_map link_bytes links ++ last;
+  spelled = spelled ∙ simp append_assoc;
+  next_size = signer_size link.key links last message signed.1;
+  valid = signed.0;
+  more = record { links = links; last = last; link_count = omega arith; spelled = refl; signed = signed.1 };
+}
 
 pub linked : (key : List ℕ) (n : ℕ) (bytes message : List ℕ) → 0 < n → IsChain key n bytes message → IsLinked key n bytes message
 linked key n bytes message some chain = linked_by key n bytes message chain.links chain.last some chain.link_count chain.spelled chain.signed
 
 pub chained : (key : List ℕ) (n : ℕ) (bytes message : List ℕ) → 0 < n → IsLinked key n bytes message → IsChain key n bytes message
 chained key n bytes message some link = record {
-    links = record { signature = link.signature; key = link.next } ∷ link.more.links;
-    last = link.more.last;
-    link_count = ap suc link.more.link_count ∙ omega arith;
-    spelled = link.spelled ∙ ap (λ (x : List ℕ). link.signature ++ (link.next ++ x)) link.more.spelled ∙ simp append_assoc;
-    signed = (link.valid, link.more.signed)
-  }
+  links = record { signature = link.signature; key = link.next } ∷ link.more.links;
+  last = link.more.last;
+  link_count = ap suc link.more.link_count ∙ omega arith;
+  spelled = link.spelled ∙ ap (λ (x : List ℕ). link.signature ++ (link.next ++ x)) link.more.spelled ∙ simp append_assoc;
+  signed = (link.valid, link.more.signed);
+}
 
 -- the link at the length of its signature
 pub record IsLinkedAt (key : List ℕ) (n len : ℕ) (bytes message : List ℕ) : Type 0 where
@@ -68,7 +68,7 @@ linked_at key n len bytes message link size =
     record {
       room = omega arith;
       valid = rw (next, signature) link.valid;
-      more = rw (next, rest) link.more
+      more = rw (next, rest) link.more;
     }
 
 pub linked_from : (key : List ℕ) (n len : ℕ) (bytes message : List ℕ) → IsLinkedAt key n len bytes message → IsLinked key n bytes message
@@ -82,5 +82,5 @@ linked_from key n len bytes message link =
       spelled = sym (ap (λ (x : List ℕ). take len bytes ++ x) behind ∙ take-append-drop len bytes);
       next_size = length-part bytes len (len + 56) (omega arith) room ∙ omega arith;
       valid = link.valid;
-      more = link.more
+      more = link.more;
     }

@@ -6,4 +6,6 @@ pub use public_key::HssPublic;
 pub use verify::hss_verify;
 
 mod public_key;
+#[cfg(test)]
+mod tests;
 mod verify;

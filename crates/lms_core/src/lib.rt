@@ -20,5 +20,7 @@ mod digits;
 mod one_time;
 mod parameters;
 mod public_key;
+#[cfg(test)]
+mod tests;
 mod tree;
 mod verify;
