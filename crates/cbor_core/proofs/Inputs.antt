@@ -1,11 +1,12 @@
 -- The laws of whole inputs.
-use Rattle.std.proofs.Common.{◌≡◌, ℕ, ◌+◌, ◌≤◌, List, [], ◌∷◌, ◌++◌, length, take, drop, Result, Ok, Err, refl, sym, ap, subst, ◌∙◌, arith, ◌⊎◌, inl, inr}
+use Rattle.std.proofs.Common.{◌≡◌, ℕ, ◌+◌, ◌≤◌, ◌<◌, List, [], ◌∷◌, ◌++◌, length, take, drop, Result, Ok, Err, refl, sym, ap, subst, ◌∙◌, arith, ◌⊎◌, inl, inr}
 use Rattle.std.specs.Prelude.{IfOk}
 use Rattle.std.proofs.lemmas.List.{take_at, drop_at, take-append-drop, length-append, length-take}
 use Rattle.cbor_core.specs.declared.item.Item.{Item}
 use Rattle.cbor_core.specs.declared.fault.CborFault.{CborFault}
 use Rattle.cbor_core.specs.declared.fault.CborFault.TheVariants as faults
 use Rattle.cbor_core.specs.declared.fault.Fault.{Fault}
+use Rattle.cbor_core.specs.declared.fault.Why.TheVariants as why
 use Rattle.cbor_core.specs.Place.{Place, start}
 use Rattle.cbor_core.specs.Faulty.{behind}
 use Rattle.cbor_core.specs.Spelling.{spelling, IsBytes, Spells}
@@ -80,3 +81,28 @@ by_outcome bytes fits (Err f) e =
 
 pub exactly_one : ExactlyOne
 exactly_one bytes fits = by_outcome bytes fits (item_at 16 (start bytes)) refl
+
+-- ---- bytes as a whole
+
+pub refused_err : (bytes : List ℕ) (e : CborFault) (f : Fault) → ((x : Item) (n : ℕ) → SpellsFront bytes x n → IsFound {A = Item × ℕ} (Err e) (x, n))
+    → (IsFaulty bytes f → IsRefused {A = Item × ℕ} (Err e) f) → IsFaultyWhole bytes f → IsRefused {A = Item} (Err e) f
+refused_err bytes faults.NoMemory f only refuses h = tt
+refused_err bytes (faults.Bad g) f only refuses (inl faulty) = refuses faulty
+refused_err bytes (faults.Bad g) f only refuses (inr extra) = absurd (only extra.item f.at extra.front)
+
+pub refused_extra : (bytes : List ℕ) (x : Item) (n : ℕ) (f : Fault) → ((y : Item) (m : ℕ) → SpellsFront bytes y m → IsFound {A = Item × ℕ} (Ok (x, n)) (y, m))
+    → (IsFaulty bytes f → ⊥) → IsFaultyWhole bytes f → record { at = n; why = why.Extra } ≡ f
+refused_extra bytes x n f only no_fault (inl faulty) = absurd (no_fault faulty)
+refused_extra bytes x n f only no_fault (inr extra) =
+    let e = only extra.item f.at extra.front in
+    let at : n ≡ f.at = ap (λ (y : Item × ℕ). y.1) e in
+    rw (at, ← extra.why) refl
+
+pub refused_not : (bytes : List ℕ) (x : Item) (n : ℕ) (f : Fault) → length bytes ≤ n → ((y : Item) (m : ℕ) → SpellsFront bytes y m → IsFound {A = Item × ℕ} (Ok (x, n)) (y, m))
+    → (IsFaulty bytes f → ⊥) → IsFaultyWhole bytes f → ⊥
+refused_not bytes x n f all only no_fault (inl faulty) = no_fault faulty
+refused_not bytes x n f all only no_fault (inr extra) =
+    let e = only extra.item f.at extra.front in
+    let at : n ≡ f.at = ap (λ (y : Item × ℕ). y.1) e in
+    let more : f.at < length bytes = extra.more in
+    absurd (omega arith)

@@ -1,8 +1,8 @@
 -- What the checked writer wrote spells an item, or the item is not proper.
-use Rattle.std.proofs.Common.{◌≡◌, ℕ, zero, suc, ◌+◌, ◌-◌, ◌<◌, ◌≤◌, ◌^◌, Bool, true, false, List, [], ◌∷◌, ◌++◌, length, take, drop, Result, Ok, Err, refl, sym, ap, subst, ◌∙◌, append_assoc, arith}
+use Rattle.std.proofs.Common.{◌≡◌, ℕ, zero, suc, ◌+◌, ◌-◌, ◌<◌, ◌≤◌, ◌^◌, Bool, true, false, cond, List, [], ◌∷◌, ◌++◌, length, take, drop, Result, Ok, Err, refl, sym, ap, subst, ◌∙◌, append_assoc, arith}
 use Rattle.std.specs.List.{flat_map, AllByRecursion, slice_range}
 use Rattle.std.specs.Str.{IsUtf8}
-use Rattle.std.proofs.lemmas.List.{append-nil, take_at, drop_at, length-append, length-drop, drop_append-le, take-append-le}
+use Rattle.std.proofs.lemmas.List.{append-nil, take_at, drop_at, length-append, length-drop, drop-append-le, take-append-le}
 use Rattle.std.proofs.lemmas.List.Concat.{flat_map-cons}
 use Rattle.base_types.specs.declared.memory.NoMemory.{NoMemory}
 use Rattle.cbor_core.specs.declared.item.Item.{Item, out-Item}
@@ -32,6 +32,31 @@ spellable_Truth d b = to_spellable d (i.Truth b) (rw i.outs-Truth tt)
 
 pub spellable_Null : (d : ℕ) → IsSpellable d i.Null
 spellable_Null d = to_spellable d i.Null (rw i.outs-Null tt)
+
+-- an item without parts, and what was written of it
+pub leaf_Unsigned : (d : ℕ) (x : Item) (n : ℕ) (old new : List ℕ) → x ≡ i.Unsigned n → n < 2 ^ 64 → new ≡ old ++ head 0 n → IsSpellable d x × (new ≡ old ++ spelling x)
+leaf_Unsigned d x n old new is lt e = rw is (spellable_Unsigned d n lt, e ∙ ap (λ (t : List ℕ). old ++ t) (sym (spelling_Unsigned n)))
+
+pub leaf_Negative : (d : ℕ) (x : Item) (n : ℕ) (old new : List ℕ) → x ≡ i.Negative n → n < 2 ^ 64 → new ≡ old ++ head 1 n → IsSpellable d x × (new ≡ old ++ spelling x)
+leaf_Negative d x n old new is lt e = rw is (spellable_Negative d n lt, e ∙ ap (λ (t : List ℕ). old ++ t) (sym (spelling_Negative n)))
+
+pub leaf_Bytes : (d : ℕ) (x : Item) (bytes seen old new : List ℕ) → x ≡ i.Bytes bytes → seen ≡ bytes → IsBytes seen → length seen < 2 ^ 64
+    → new ≡ old ++ (head 2 (length seen) ++ seen) → IsSpellable d x × (new ≡ old ++ spelling x)
+leaf_Bytes d x bytes seen old new is same fits lt e =
+    let whole : IsSpellable d (i.Bytes seen) × (new ≡ old ++ spelling (i.Bytes seen)) = (spellable_Bytes d seen fits lt, e ∙ ap (λ (t : List ℕ). old ++ t) (sym (spelling_Bytes seen))) in
+    rw (is, ← same) whole
+
+pub leaf_Text : (d : ℕ) (x : Item) (text seen old new : List ℕ) → x ≡ i.Text text → seen ≡ text → IsUtf8 seen → length seen < 2 ^ 64
+    → new ≡ old ++ (head 3 (length seen) ++ seen) → IsSpellable d x × (new ≡ old ++ spelling x)
+leaf_Text d x text seen old new is same ok lt e =
+    let whole : IsSpellable d (i.Text seen) × (new ≡ old ++ spelling (i.Text seen)) = (spellable_Text d seen ok lt, e ∙ ap (λ (t : List ℕ). old ++ t) (sym (spelling_Text seen))) in
+    rw (is, ← same) whole
+
+pub leaf_Truth : (d : ℕ) (x : Item) (b : Bool) (byte : ℕ) (old new : List ℕ) → x ≡ i.Truth b → byte ≡ cond b 245 244 → new ≡ old ++ byte ∷ [] → IsSpellable d x × (new ≡ old ++ spelling x)
+leaf_Truth d x b byte old new is byte_is e = rw is (spellable_Truth d b, e ∙ ap (λ (n : ℕ). old ++ n ∷ []) byte_is ∙ ap (λ (t : List ℕ). old ++ t) (sym (spelling_Truth b)))
+
+pub leaf_Null : (d : ℕ) (x : Item) (old new : List ℕ) → x ≡ i.Null → new ≡ old ++ 246 ∷ [] → IsSpellable d x × (new ≡ old ++ spelling x)
+leaf_Null d x old new is e = rw is (spellable_Null d, e ∙ ap (λ (t : List ℕ). old ++ t) (sym spelling_Null))
 
 -- ---- containers
 

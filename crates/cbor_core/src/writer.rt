@@ -1,6 +1,6 @@
-ghost use Rattle.std.specs.Prelude.{◌≡◌, ◌↔◌, ◌≤◌, ◌<◌, ◌++◌, ℕ, List, [], true, length, slice_range, drop, IsTrue, IfOk, OnOk};
+ghost use Rattle.std.specs.Prelude.{◌≡◌, ◌↔◌, ◌≤◌, ◌<◌, ◌++◌, ◌^◌, ℕ, List, [], true, length, slice_range, drop, IsTrue, IfOk, OnOk, if◌then◌else◌};
 ghost use Rattle.std.specs.List.{AllByRecursion};
-ghost use Rattle.cbor_core.specs.Spelling.{head, spelling, spellings, pair_spellings, bytes_below, IsProper, IsProperWithin, IsSpellable, Spells};
+ghost use Rattle.cbor_core.specs.Spelling.{IsBytes, head, spelling, spellings, pair_spellings, bytes_below, IsProper, IsProperWithin, IsSpellable, Spells};
 ghost use Rattle.cbor_core.specs.Writing.{Writes, PairsAre};
 
 use crate::item::{Item, Pair};
@@ -11,7 +11,8 @@ use std::alloc::Global;
 #[tactic(auto, unfolding(crate::specs::Spelling::head))]
 fn push_head(out: &mut Vec<u8>, major: u8, n: u64) -> OrMemory<()>
     requires { major < 8 }
-    ensures { OnOk result (out.new.items ≡ out.old.items ++ head major n) }
+    ensures written { OnOk result (out.new.items ≡ out.old.items ++ head major n) }
+    ensures range { n < 2 ^ 64 }
 {
     let first = 32 * major;
     if n < 24 {
@@ -35,11 +36,19 @@ fn push_head(out: &mut Vec<u8>, major: u8, n: u64) -> OrMemory<()>
 /// Writes a head and the bytes that it announces.
 fn push_string(out: &mut Vec<u8>, major: u8, bytes: &[u8]) -> OrMemory<()>
     requires { major < 8 }
-    ensures { OnOk result (out.new.items ≡ out.old.items ++ (head major (length bytes.now) ++ bytes.now)) }
+    ensures written { OnOk result (out.new.items ≡ out.old.items ++ (head major (length bytes.now) ++ bytes.now)) }
+    ensures bytes { IsBytes bytes.now }
+    ensures len { length bytes.now < 2 ^ 64 }
 {
     push_head(out, major, bytes.len() as u64)?;
     out.extend_from_slice(bytes)?;
     Ok(())
+}
+
+fn truth_byte(b: bool) -> u8
+    ensures { result ≡ (if b then 245 else 244) }
+{
+    if b { 245 } else { 244 }
 }
 
 /// Whether the bytes from a place on are above those between two places before it.
@@ -68,7 +77,7 @@ fn push_item(out: &mut Vec<u8>, depth: u8, item: &Item) -> OrMemory<bool>
         Item::Array(members) => return push_array(out, depth, members.as_slice()),
         Item::Map(pairs) => return push_map(out, depth, pairs.as_slice()),
         Item::Tag(n, content) => return push_tag(out, depth, *n, content.get()),
-        Item::Truth(b) => out.push(if *b { 245 } else { 244 })?,
+        Item::Truth(b) => out.push(truth_byte(*b))?,
         Item::Null => out.push(246)?,
     }
     Ok(true)
