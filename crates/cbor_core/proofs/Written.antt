@@ -1,8 +1,9 @@
 -- What the checked writer wrote spells an item, or the item is not proper.
-use Rattle.std.proofs.Common.{◌≡◌, ℕ, zero, suc, ◌+◌, ◌-◌, ◌<◌, ◌≤◌, ◌^◌, Bool, true, false, cond, List, [], ◌∷◌, ◌++◌, length, take, drop, Result, Ok, Err, refl, sym, ap, subst, ◌∙◌, append_assoc, arith}
+use Rattle.std.proofs.Common.{◌≡◌, ℕ, zero, suc, ◌+◌, ◌-◌, ◌<◌, ◌≤◌, ◌^◌, Bool, true, false, cond, List, [], ◌∷◌, ◌++◌, length, get_or, take, drop, Result, Ok, Err, refl, sym, ap, subst, ◌∙◌, append_assoc, arith}
 use Rattle.std.specs.List.{flat_map, AllByRecursion, slice_range}
 use Rattle.std.specs.Str.{IsUtf8}
-use Rattle.std.proofs.lemmas.List.{append-nil, take_at, drop_at, length-append, length-drop, drop-append-le, take-append-le}
+use Rattle.std.proofs.lemmas.List.{take_at, drop_at, length-append}
+use Rattle.std.proofs.Math.Seq.{drop-cons}
 use Rattle.std.proofs.lemmas.List.Concat.{flat_map-cons}
 use Rattle.base_types.specs.declared.memory.NoMemory.{NoMemory}
 use Rattle.cbor_core.specs.declared.item.Item.{Item, out-Item}
@@ -127,31 +128,6 @@ pub record ItemsLeft (d : ℕ) (items left : List Item) (old new : List ℕ) : T
   pub spellable : AllByRecursion (IsSpellable d) left → AllByRecursion (IsSpellable d) items
   pub proper : AllByRecursion (IsProperWithin d) items → AllByRecursion (IsProperWithin d) left
 
-pub items_begin : (d : ℕ) (items left : List Item) (old : List ℕ) → left ≡ items → ItemsLeft d items left old old
-items_begin d items left old e = rw e (record { written = refl; spellable = λ all. all; proper = λ all. all })
-
-pub items_step : (d : ℕ) (items left more : List Item) (x : Item) (old new now : List ℕ) → left ≡ x ∷ more → ItemsLeft d items left old new
-    → IsSpellable d x → now ≡ new ++ spelling x → ItemsLeft d items more old now
-items_step d items left more x old new now is h ok wrote =
-    let from = subst (λ (l : List Item). ItemsLeft d items l old new) is h in
-    record {
-      written = ap (λ (t : List ℕ). t ++ spellings more) wrote ∙ append_assoc new (spelling x) (spellings more) ∙ ap (λ (t : List ℕ). new ++ t) (sym (flat_map-cons spelling x more)) ∙ from.written;
-      spellable = λ all. from.spellable (ok, all);
-      proper = λ all. (from.proper all).1;
-    }
-
-pub items_refused : (d : ℕ) (items left more : List Item) (x : Item) (old new : List ℕ) → left ≡ x ∷ more → ItemsLeft d items left old new
-    → ¬ (IsProperWithin d x) → ¬ (AllByRecursion (IsProperWithin d) items)
-items_refused d items left more x old new is h wrong all =
-    let from = subst (λ (l : List Item). ItemsLeft d items l old new) is h in
-    wrong (from.proper all).0
-
-pub items_done : (d : ℕ) (items left : List Item) (old new : List ℕ) → left ≡ [] → ItemsLeft d items left old new
-    → AllByRecursion (IsSpellable d) items × (new ≡ old ++ spellings items)
-items_done d items left old new is h =
-    let from = subst (λ (l : List Item). ItemsLeft d items l old new) is h in
-    (from.spellable tt, sym (append-nil new) ∙ from.written)
-
 -- ---- pairs one behind the other
 
 pub record PairsLeft (d : ℕ) (pairs left : List Pair) (last old new : List ℕ) : Type 0 where
@@ -159,10 +135,7 @@ pub record PairsLeft (d : ℕ) (pairs left : List Pair) (last old new : List ℕ
   pub spellable : PairsAre (IsSpellable d) last left → PairsAre (IsSpellable d) [] pairs
   pub proper : PairsAre (IsProperWithin d) [] pairs → PairsAre (IsProperWithin d) last left
 
-pub pairs_begin : (d : ℕ) (pairs left : List Pair) (last old : List ℕ) → left ≡ pairs → last ≡ [] → PairsLeft d pairs left last old old
-pairs_begin d pairs left last old e none = rw (e, none) (record { written = refl; spellable = λ all. all; proper = λ all. all })
-
-pub pairs_step : (d : ℕ) (pairs left more : List Pair) (p : Pair) (last old new now : List ℕ) → left ≡ p ∷ more → PairsLeft d pairs left last old new
+pairs_step : (d : ℕ) (pairs left more : List Pair) (p : Pair) (last old new now : List ℕ) → left ≡ p ∷ more → PairsLeft d pairs left last old new
     → IsSpellable d p.key → bytes_below last (spelling p.key) ≡ true → IsSpellable d p.value → now ≡ (new ++ spelling p.key) ++ spelling p.value
     → PairsLeft d pairs more (spelling p.key) old now
 pairs_step d pairs left more p last old new now is h key below value wrote =
@@ -175,22 +148,20 @@ pairs_step d pairs left more p last old new now is h key below value wrote =
       proper = λ all. (let a = from.proper all in (a.0.1, a.1.1));
     }
 
-pub key_refused : (d : ℕ) (pairs left more : List Pair) (p : Pair) (last old new : List ℕ) → left ≡ p ∷ more → PairsLeft d pairs left last old new
-    → ¬ (IsProperWithin d p.key × (bytes_below last (spelling p.key) ≡ true)) → ¬ (PairsAre (IsProperWithin d) [] pairs)
-key_refused d pairs left more p last old new is h wrong all =
-    let from = subst (λ (l : List Pair). PairsLeft d pairs l last old new) is h in
-    let a = from.proper all in
-    wrong (a.0.0.0, a.1.0)
+-- the pair at a place, and those behind it
+pub next_pair : (pairs : List Pair) (k : ℕ) (p : Pair) → k < length pairs → p ≡ get_or pairs k p → drop k pairs ≡ p ∷ drop (k + 1) pairs
+next_pair pairs k p lt is = let one : k + 1 ≡ suc k = omega arith in rw one (drop-cons pairs k p lt ∙ ap (λ (q : Pair). q ∷ drop (suc k) pairs) (sym is))
 
-pub value_refused : (d : ℕ) (pairs left more : List Pair) (p : Pair) (last old new : List ℕ) → left ≡ p ∷ more → PairsLeft d pairs left last old new
-    → ¬ (IsProperWithin d p.value) → ¬ (PairsAre (IsProperWithin d) [] pairs)
-value_refused d pairs left more p last old new is h wrong all =
-    let from = subst (λ (l : List Pair). PairsLeft d pairs l last old new) is h in
-    let a = from.proper all in
-    wrong a.0.0.1
-
-pub pairs_done : (d : ℕ) (pairs left : List Pair) (last old new : List ℕ) → left ≡ [] → PairsLeft d pairs left last old new
-    → PairsAre (IsSpellable d) [] pairs × (new ≡ old ++ pair_spellings pairs)
-pairs_done d pairs left last old new is h =
-    let from = subst (λ (l : List Pair). PairsLeft d pairs l last old new) is h in
-    (from.spellable (tt, tt), sym (append-nil new) ∙ from.written)
+-- one more pair was written, and its key lies between two places
+pub pairs_more : (d : ℕ) (pairs left more : List Pair) (p : Pair) (old before mid now : List ℕ) (last_start last_end start end : ℕ) → left ≡ p ∷ more
+    → PairsLeft d pairs left (slice_range before last_start last_end) old before → start ≡ length before → end ≡ length mid
+    → IsSpellable d p.key × (bytes_below (slice_range before last_start last_end) (spelling p.key) ≡ true) → mid ≡ before ++ spelling p.key
+    → IsSpellable d p.value → now ≡ mid ++ spelling p.value → PairsLeft d pairs more (slice_range now start end) old now
+pairs_more d pairs left more p old before mid now last_start last_end start end is h start_is end_is key wrote_key value wrote_value =
+    let whole : now ≡ (before ++ spelling p.key) ++ spelling p.value = wrote_value ∙ ap (λ (t : List ℕ). t ++ spelling p.value) wrote_key in
+    let flat : now ≡ before ++ (spelling p.key ++ spelling p.value) = whole ∙ append_assoc before (spelling p.key) (spelling p.value) in
+    let size : end - start ≡ length (spelling p.key) = omega (arith, ap length wrote_key, length-append before (spelling p.key)) in
+    let behind : drop start now ≡ spelling p.key ++ spelling p.value = ap (λ (t : List ℕ). drop start t) flat ∙ drop_at before (spelling p.key ++ spelling p.value) start (sym start_is) in
+    let between : slice_range now start end ≡ spelling p.key =
+    (ap (λ (t : List ℕ). take (end - start) t) behind ∙ take_at (spelling p.key) (spelling p.value) (end - start) (sym size)) in
+    rw between (pairs_step d pairs left more p (slice_range before last_start last_end) old before now is h key.0 key.1 value whole)

@@ -1,5 +1,7 @@
-use Rattle.std.proofs.Common.{arith, rules, ap, sym, ◌∙◌, ◌++◌}
-use Rattle.cbor_core.proofs.Written.{leaf_Unsigned, leaf_Negative, leaf_Bytes, leaf_Text, leaf_Truth, leaf_Null, writes_Array, writes_Map, writes_Tag}
+use Rattle.std.proofs.Common.{arith, ap, ◌∙◌, length, drop}
+use Rattle.std.proofs.lemmas.List.{length-append}
+use Rattle.cbor_core.specs.Spelling.{spelling}
+use Rattle.cbor_core.proofs.Written.{leaf_Unsigned, leaf_Negative, leaf_Bytes, leaf_Text, leaf_Truth, leaf_Null, writes_Array, writes_Map, writes_Tag, next_pair, pairs_more}
 use Rattle.cbor_core.proofs.writer.+writer.Goals as goal
 
 pub push_item-returns-in_ok-push_head-in-Unsigned : goal.push_item-returns-in_ok-push_head-in-Unsigned
@@ -28,3 +30,19 @@ push_map-returns t c = writes_Map c.push_pairs.result c.args.depth c.args.pairs.
 
 pub push_tag-returns : goal.push_tag-returns
 push_tag-returns t c = writes_Tag c.push_item.result c.args.depth c.args.n c.args.content.now c.args.out.now.items c.push_item.new.out.items (omega arith) c.push_head.ensures.range (rw c.in_ok-push_head.ensures.written at c.push_item.ensures)
+
+pub push_pairs-loop-pair-preserved : goal.push_pairs-loop-pair-preserved
+push_pairs-loop-pair-preserved t c =
+    let key = rw c.if-not-branch.false at c.in_ok-push_key.ensures in
+    let value = rw c.if-not-branch-2.false at c.in_ok-push_item.ensures in
+    let start = c.len-start.ensures ∙ c.loop-pair.out.ok.0 in
+    let end = c.len-last_end.ensures ∙ c.push_key.new.out.ok.0 in
+    let longer = ap length key.1 in
+    let longest = ap length value.1 in
+    record {
+      left = pairs_more c.args.depth c.args.pairs.now (drop c.loop-pair.pair-index c.args.pairs.now) _ c.pair-item.result c.args.out.now.items c.loop-pair.out.items c.push_key.new.out.items c.push_item.new.out.items
+      c.loop-pair.last_start c.loop-pair.last_end c.len-start.result c.len-last_end.result
+      (next_pair c.args.pairs.now c.loop-pair.pair-index c.pair-item.result c.loop-pair-test.true c.pair-item.is) c.loop-pair.invariant.left start end key.0 key.1 value.0 value.1;
+      ordered = omega (arith, start, end, longer, length-append c.loop-pair.out.items (spelling c.pair-item.result.key));
+      within = omega (arith, end, longest, length-append c.push_key.new.out.items (spelling c.pair-item.result.value));
+    }
