@@ -1,7 +1,7 @@
 -- The laws of whole inputs.
 use Rattle.std.proofs.Common.{◌≡◌, ℕ, ◌+◌, ◌≤◌, ◌<◌, List, [], ◌∷◌, ◌++◌, length, take, drop, Result, Ok, Err, refl, sym, ap, subst, ◌∙◌, arith, ◌⊎◌, inl, inr}
 use Rattle.std.specs.Prelude.{IfOk}
-use Rattle.std.proofs.lemmas.List.{take_at, drop_at, take-append-drop, length-append, length-take}
+use Rattle.std.proofs.lemmas.List.{append-nil, take_at, drop_at, take-append-drop, length-append, length-take}
 use Rattle.cbor_core.specs.declared.item.Item.{Item}
 use Rattle.cbor_core.specs.declared.fault.CborFault.{CborFault}
 use Rattle.cbor_core.specs.declared.fault.CborFault.TheVariants as faults
@@ -16,7 +16,7 @@ use Rattle.cbor_core.proofs.Items.{item_takes}
 use Rattle.cbor_core.proofs.Again.{item_again}
 use Rattle.cbor_core.proofs.Faults.{err_is, item_fault}
 use Rattle.cbor_core.proofs.Refused.{item_refuses}
-use Rattle.cbor_core.specs.Law.{SpellsFront, IsFaulty, HasExtra, IsFaultyWhole, OneItem, OneFault, ExactlyOne}
+use Rattle.cbor_core.specs.Law.{SpellsFront, IsFaulty, HasExtra, IsFaultyWhole, OneItem, OneFault, ExactlyOne, SpelledInFront, OneForOne}
 
 pub found : (bytes : List ℕ) (r : Result (Item × ℕ) CborFault) → IsBytes bytes → Decodes (item_at 16 (start bytes)) r → IfOk r (λ x. (x.1 ≤ length bytes) × Spells x.0 (take x.1 bytes))
 found bytes (Ok x) fits d =
@@ -106,3 +106,23 @@ refused_not bytes x n f all only no_fault (inr extra) =
     let at : n ≡ f.at = ap (λ (y : Item × ℕ). y.1) e in
     let more : f.at < length bytes = extra.more in
     absurd (omega arith)
+
+-- ---- items and their bytes
+
+pub spelled_in_front : SpelledInFront
+spelled_in_front x bytes more s =
+    let front : take (length bytes) (bytes ++ more) ≡ bytes = take_at bytes more (length bytes) refl in
+    (omega (arith, length-append bytes more), record { proper = s.proper; ranges = s.ranges; spelled = front ∙ s.spelled })
+
+reads_whole : (bytes : List ℕ) (x : Item) → Spells x bytes → item_at 16 (start bytes) ≡ Ok (x, record { at = length bytes; rest = drop (length bytes) bytes })
+reads_whole bytes x s =
+    let all : take (length bytes) bytes ≡ bytes = ap (λ (t : List ℕ). take (length bytes) t) (sym (append-nil bytes)) ∙ take_at bytes [] (length bytes) refl in
+    reads bytes x (length bytes) (omega arith) (record { proper = s.proper; ranges = s.ranges; spelled = all ∙ s.spelled })
+
+pub one_for_one : OneForOne
+one_for_one = record {
+  one_item = λ x y bytes s t.
+  (let rest : Place = record { at = length bytes; rest = drop (length bytes) bytes } in
+  ap (λ (z : Item × Place). z.0) (ok_is (x, rest) (y, rest) (sym (reads_whole bytes x s) ∙ reads_whole bytes y t)));
+  one_spelling = λ x a b s t. (s.spelled ∙ sym t.spelled);
+}

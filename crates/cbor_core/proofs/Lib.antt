@@ -6,6 +6,8 @@ pub mod Heads
 pub mod Items
 pub mod Again
 pub mod Inputs
+pub mod Parts
+pub mod KeyOrder
 pub mod Faults
 pub mod Refused
 pub mod Tables

@@ -13,6 +13,15 @@ impl Item {
     }
 }
 
+impl Pair {
+    /// A copy of the key and the value. Refused for want of memory alone.
+    pub fn try_clone(&self, alloc: Global) -> OrMemory<Pair>
+        ensures { IfOk result (λ pair. pair ≡ self.now) }
+    {
+        copy_pair(alloc, self)
+    }
+}
+
 #[cycle(copies)]
 fn copy_item(alloc: Global, item: &Item) -> OrMemory<Item>
     ensures { IfOk result (λ x. x ≡ item.now) }
@@ -37,8 +46,9 @@ fn copy_boxed(alloc: Global, content: &Boxed<Item>) -> OrMemory<Boxed<Item>>
     Boxed::new(alloc, copy_item(alloc, content.get())?)
 }
 
+/// A copy of items, in their order. Refused for want of memory alone.
 #[cycle(copies)]
-fn copy_items(alloc: Global, items: &[Item]) -> OrMemory<List<Item>>
+pub fn copy_items(alloc: Global, items: &[Item]) -> OrMemory<List<Item>>
     ensures { IfOk result (λ xs. xs ≡ items.now) }
 {
     let mut copies = List::new(alloc);
@@ -48,8 +58,9 @@ fn copy_items(alloc: Global, items: &[Item]) -> OrMemory<List<Item>>
     Ok(copies)
 }
 
+/// A copy of pairs, in their order. Refused for want of memory alone.
 #[cycle(copies)]
-fn copy_pairs(alloc: Global, pairs: &[Pair]) -> OrMemory<List<Pair>>
+pub fn copy_pairs(alloc: Global, pairs: &[Pair]) -> OrMemory<List<Pair>>
     ensures { IfOk result (λ xs. xs ≡ pairs.now) }
 {
     let mut copies = List::new(alloc);

@@ -23,4 +23,5 @@ pub use item::{Item, Pair};
 pub use reader::{decode, decode_whole};
 pub use writer::{encode, is_proper};
 pub use views::field;
-pub use laws::exactly_one;
+pub use copies::{copy_items, copy_pairs};
+pub use laws::{exactly_one, one_for_one, parts_are_proper, spelled_in_front};

@@ -198,8 +198,8 @@ fn read_front(alloc: Global, bytes: &[u8]) -> Result<(Item, usize), CborFault>
 /// it takes. What stands behind them is not looked at.
 ///
 /// `Bad` names the first fault: of an item, the rules about its head and what the head announces come
-/// first, in the order of `Why`'s table, and then its parts from left to right. `NoMemory` may come
-/// for any bytes.
+/// first, in their order, and then its parts from left to right. `NoMemory` may come for any bytes.
+/// The work is linear in the bytes that are read, and nothing recurses deeper than 16 containers.
 pub fn decode(alloc: Global, bytes: &[u8]) -> Result<(Item, usize), CborFault>
     // What is found is spelled by that many bytes.
     ensures found { IfOk result (λ x. SpellsFront bytes.now x.0 x.1) }
