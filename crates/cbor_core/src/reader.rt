@@ -113,6 +113,12 @@ fn read_tag(
     Ok(Item::Tag(n, Boxed::new(alloc, item)?))
 }
 
+/// How many places are kept for the parts of a container before they are read: all, unless there are
+/// more than 1,024, so that a head alone takes little memory.
+fn first_room(n: u64) -> usize {
+    n.min(1024) as usize
+}
+
 #[cycle(reader)]
 fn read_items(
     alloc: Global,
@@ -122,11 +128,11 @@ fn read_items(
 ) -> Result<List<Item>, CborFault>
     ensures { Gives (items_at (item_at depth) n [] input.old) result input.new }
 {
-    let mut found = List::new(alloc);
+    let mut found = Vec::with_capacity(alloc, first_room(n))?;
     for _ in 0..n {
         found.push(read_item(alloc, depth, input)?)?;
     }
-    Ok(found)
+    Ok(List::from_vec(found))
 }
 
 #[cycle(reader)]
@@ -169,7 +175,7 @@ fn read_pairs(
 ) -> Result<List<Pair>, CborFault>
     ensures { Gives (pairs_at (item_at depth) n [] [] input.old) result input.new }
 {
-    let mut found = List::new(alloc);
+    let mut found = Vec::with_capacity(alloc, first_room(n))?;
     let mut last: &[u8] = &[];
     for _ in 0..n {
         let at = input.at();
@@ -183,7 +189,7 @@ fn read_pairs(
         found.push(Pair { key, value })?;
         last = spelled;
     }
-    Ok(found)
+    Ok(List::from_vec(found))
 }
 
 fn read_front(alloc: Global, bytes: &[u8]) -> Result<(Item, usize), CborFault>
