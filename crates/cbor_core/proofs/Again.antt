@@ -1,8 +1,8 @@
 -- What is spelled so is read.
-use Rattle.std.proofs.Common.{◌≡◌, ℕ, zero, suc, ◌+◌, ◌-◌, ◌*◌, ◌^◌, ◌<◌, ◌≤◌, ◌⊎◌, Bool, true, false, cond, List, [], ◌∷◌, ◌++◌, length, take, drop, Option, Some, None, Result, Ok, Err, refl, sym, ap, subst, ◌∙◌, append_assoc, arith, lit≤, lit<}
+use Rattle.std.proofs.Common.{◌≡◌, ℕ, zero, suc, ◌+◌, ◌-◌, ◌^◌, ◌<◌, Bool, true, false, List, [], ◌∷◌, ◌++◌, length, Option, Some, None, Ok, refl, sym, ap, subst, ◌∙◌, append_assoc, arith, lit≤, lit<}
 use Rattle.std.specs.Prelude.{nat_lt}
-use Rattle.std.specs.List.{flat_map, AllByRecursion}
-use Rattle.std.specs.Str.{IsUtf8, is_utf8}
+use Rattle.std.specs.List.{AllByRecursion}
+use Rattle.std.specs.Str.{IsUtf8}
 use Rattle.std.proofs.lemmas.Bool.{le-ltb}
 use Rattle.std.proofs.lemmas.Str.{is_utf8-from_IsUtf8}
 use Rattle.std.proofs.lemmas.List.{append-nil, take_at, drop_at, length-append}
@@ -12,11 +12,10 @@ use Rattle.cbor_core.specs.declared.item.Item.TheOpen.{Item-F}
 use Rattle.cbor_core.specs.declared.item.Item.TheViews.{roll-Item, roll-out-Item}
 use Rattle.cbor_core.specs.declared.item.Item.TheVariants as i
 use Rattle.cbor_core.specs.declared.item.Pair.{Pair}
-use Rattle.cbor_core.specs.declared.head.Head.{Head}
-use Rattle.cbor_core.specs.Place.{Place, skip}
+use Rattle.cbor_core.specs.Place.{Place}
 use Rattle.cbor_core.specs.Faulty.{behind}
-use Rattle.cbor_core.specs.Spelling.{head, spelling, spellings, pair_spelling, pair_spellings, bytes_below, KeysAscend, IsSpellable}
-use Rattle.cbor_core.specs.Reading.{Outcome, Reader, ◌>>=◌, fault, kind_of, head_at, part, text_by, bytes_at, text_at, items_at, pairs_at, between, array_at, map_at, tag_at, simple, content, item_by, item_at}
+use Rattle.cbor_core.specs.Spelling.{head, spelling, spellings, pair_spelling, pair_spellings, KeysAscend, IsSpellable}
+use Rattle.cbor_core.specs.Reading.{Reader, kind_of, part, items_at, pairs_at, between, content, item_by, item_at}
 use Rattle.cbor_core.proofs.Spell.{spelling_Unsigned, spelling_Negative, spelling_Bytes, spelling_Text, spelling_Array, spelling_Map, spelling_Tag, spelling_Truth, spelling_Null, pair_spelling_out}
 use Rattle.cbor_core.proofs.Heads.{IsHead, head_again, head_short}
 use Rattle.cbor_core.proofs.Levels.{IsWholeBy, from_spellable}

@@ -1,8 +1,7 @@
 -- The reader's fault is the first fault, and a first fault is the reader's.
-use Rattle.std.proofs.Common.{◌≡◌, ℕ, zero, suc, ◌+◌, ◌-◌, ◌*◌, ◌/◌, ◌%◌, ◌<◌, ◌≤◌, ◌⊎◌, Bool, true, false, cond, List, [], ◌∷◌, ◌++◌, length, take, drop, Option, Some, None, Result, Ok, Err, refl, sym, ap, subst, ◌∙◌, append_assoc, arith, inl, inr}
+use Rattle.std.proofs.Common.{◌≡◌, ℕ, zero, suc, ◌+◌, ◌/◌, ◌%◌, ◌⊎◌, Bool, true, false, cond, List, [], ◌∷◌, ◌++◌, length, take, Some, None, Ok, Err, refl, sym, ap, subst, ◌∙◌, append_assoc, arith, inl, inr}
 use Rattle.std.specs.Prelude.{nat_lt, ◌==◌, ◌&&◌, ◌||◌}
 use Rattle.std.specs.Int.{Width, w8, w16, w32, w64, byte_len, from_be_bytes}
-use Rattle.std.specs.List.{flat_map, AllByRecursion}
 use Rattle.std.specs.Str.{is_utf8}
 use Rattle.std.proofs.lemmas.List.{length-append}
 use Rattle.std.proofs.lemmas.List.Concat.{flat_map-cons}
@@ -16,15 +15,15 @@ use Rattle.cbor_core.specs.declared.head.Kind.{Kind}
 use Rattle.cbor_core.specs.declared.head.Kind.TheVariants as k
 use Rattle.cbor_core.specs.declared.head.Head.{Head}
 use Rattle.cbor_core.specs.Place.{Place, skip}
-use Rattle.cbor_core.specs.Spelling.{spelling, spellings, pair_spelling, pair_spellings, bytes_below, KeysAscend, IsBytes, IsSpellable}
-use Rattle.cbor_core.specs.Reading.{Outcome, Reader, ◌>>=◌, fault, kind_of, head_at, head_by, head_with, argument_at, argument_by, part, text_by, bytes_at, text_at, items_at, pairs_at, between, array_at, map_at, tag_at, simple, content, item_by, item_at}
-use Rattle.cbor_core.specs.Faulty.{behind, last_key, ArrayFault, AfterKey, MapFault, PartFault, PartFaultBy, FaultyBy, Faulty}
+use Rattle.cbor_core.specs.Spelling.{spelling, spellings, pair_spelling, pair_spellings, bytes_below, IsBytes, IsSpellable}
+use Rattle.cbor_core.specs.Reading.{Outcome, Reader, ◌>>=◌, fault, head_at, head_by, head_with, argument_at, part, text_by, bytes_at, text_at, items_at, pairs_at, between, content, item_at}
+use Rattle.cbor_core.specs.Faulty.{behind, last_key, ArrayFault, AfterKey, MapFault, PartFault, FaultyBy, Faulty}
 use Rattle.cbor_core.specs.Table.{body_rule, table}
-use Rattle.cbor_core.proofs.Tables.{rule_by, first_rule, first_rule-table}
+use Rattle.cbor_core.proofs.Tables.{first_rule-table, part_out}
 use Rattle.cbor_core.proofs.Spell.{pair_spelling_out}
-use Rattle.cbor_core.proofs.Heads.{chosen, passed, ok_is, not_ok, done, failed, Took, HeadTook}
+use Rattle.cbor_core.proofs.Heads.{chosen, passed, ok_is, done, failed, Took}
 use Rattle.cbor_core.proofs.Items.{TakesBy, kind_takes, between_is, item_takes}
-use Rattle.cbor_core.proofs.Again.{ReadsAgain, item_again, between_again, behind-append}
+use Rattle.cbor_core.proofs.Again.{behind-append}
 
 pub not_err : {A : Type 0} (x : A) (f : Fault) → done x ≡ Err f → ⊥
 not_err x f e = cc
@@ -246,7 +245,7 @@ whole_fault : (P : Item → Type 0) (F : Place → Fault → Type 0) (room : Boo
     → BodyFault P F room p.at x.0.kind x.0.argument x.1 f → FaultyBy P F room p f
 whole_fault P F room p x f is b =
     let rule : table room p ≡ body_rule room x.0.kind x.0.argument x.1 = sym (first_rule-table room p) ∙ rw is refl in
-    elim b [ inl a ↦ inl (rule ∙ a.0, a.1) | inr c ↦ inr (rule ∙ c.0, rw is c.1) ]
+    elim b [ inl a ↦ inl (rule ∙ a.0, a.1) | inr c ↦ inr (rule ∙ c.0, part_out P F f x p is c.1) ]
 
 stopped : (room : Bool) (p : Place) (f : Fault) → head_at p ≡ Err f → table room p ≡ Some f.why
 stopped room p f is = sym (first_rule-table room p) ∙ rw is refl

@@ -1,22 +1,21 @@
 -- The laws of whole inputs.
-use Rattle.std.proofs.Common.{◌≡◌, ℕ, ◌+◌, ◌≤◌, ◌<◌, List, [], ◌∷◌, ◌++◌, length, take, drop, Result, Ok, Err, refl, sym, ap, subst, ◌∙◌, arith, ◌⊎◌, inl, inr}
+use Rattle.std.proofs.Common.{◌≡◌, ℕ, ◌+◌, ◌≤◌, ◌<◌, List, [], ◌++◌, length, take, drop, Result, Ok, Err, refl, sym, ap, subst, ◌∙◌, arith, ◌⊎◌, inl, inr}
 use Rattle.std.specs.Prelude.{IfOk}
-use Rattle.std.proofs.lemmas.List.{append-nil, take_at, drop_at, take-append-drop, length-append, length-take}
+use Rattle.std.proofs.lemmas.List.{append-nil, take_at, take-append-drop, length-append, length-take}
 use Rattle.cbor_core.specs.declared.item.Item.{Item}
 use Rattle.cbor_core.specs.declared.fault.CborFault.{CborFault}
 use Rattle.cbor_core.specs.declared.fault.CborFault.TheVariants as faults
 use Rattle.cbor_core.specs.declared.fault.Fault.{Fault}
 use Rattle.cbor_core.specs.declared.fault.Why.TheVariants as why
 use Rattle.cbor_core.specs.Place.{Place, start}
-use Rattle.cbor_core.specs.Faulty.{behind}
 use Rattle.cbor_core.specs.Spelling.{spelling, IsBytes, Spells}
 use Rattle.cbor_core.specs.Reading.{Outcome, Fails, Decodes, IsFound, IsRefused, item_at}
-use Rattle.cbor_core.proofs.Heads.{ok_is, Took}
+use Rattle.cbor_core.proofs.Heads.{ok_is}
 use Rattle.cbor_core.proofs.Items.{item_takes}
 use Rattle.cbor_core.proofs.Again.{item_again}
 use Rattle.cbor_core.proofs.Faults.{err_is, item_fault}
 use Rattle.cbor_core.proofs.Refused.{item_refuses}
-use Rattle.cbor_core.specs.Law.{SpellsFront, IsFaulty, HasExtra, IsFaultyWhole, OneItem, OneFault, ExactlyOne, SpelledInFront, OneForOne}
+use Rattle.cbor_core.specs.Law.{SpellsFront, IsFaulty, IsFaultyWhole, OneItem, OneFault, ExactlyOne, SpelledInFront, OneForOne}
 
 pub found : (bytes : List ℕ) (r : Result (Item × ℕ) CborFault) → IsBytes bytes → Decodes (item_at 16 (start bytes)) r → IfOk r (λ x. (x.1 ≤ length bytes) × Spells x.0 (take x.1 bytes))
 found bytes (Ok x) fits d =
@@ -84,6 +83,16 @@ exactly_one bytes fits = by_outcome bytes fits (item_at 16 (start bytes)) refl
 
 -- ---- bytes as a whole
 
+whole_front : (bytes : List ℕ) (x : Item) → Spells x bytes → SpellsFront bytes x (length bytes)
+whole_front bytes x s =
+    let all : take (length bytes) bytes ≡ bytes = ap (λ (t : List ℕ). take (length bytes) t) (sym (append-nil bytes)) ∙ take_at bytes [] (length bytes) refl in
+    (omega arith, record { proper = s.proper; ranges = s.ranges; spelled = all ∙ s.spelled })
+
+pub only_err : (bytes : List ℕ) (e : CborFault) → ((x : Item) (n : ℕ) → SpellsFront bytes x n → IsFound {A = Item × ℕ} (Err e) (x, n))
+    → (x : Item) → Spells x bytes → IsFound {A = Item} (Err e) x
+only_err bytes faults.NoMemory only x s = tt
+only_err bytes (faults.Bad g) only x s = only x (length bytes) (whole_front bytes x s)
+
 pub refused_err : (bytes : List ℕ) (e : CborFault) (f : Fault) → ((x : Item) (n : ℕ) → SpellsFront bytes x n → IsFound {A = Item × ℕ} (Err e) (x, n))
     → (IsFaulty bytes f → IsRefused {A = Item × ℕ} (Err e) f) → IsFaultyWhole bytes f → IsRefused {A = Item} (Err e) f
 refused_err bytes faults.NoMemory f only refuses h = tt
@@ -115,14 +124,12 @@ spelled_in_front x bytes more s =
     (omega (arith, length-append bytes more), record { proper = s.proper; ranges = s.ranges; spelled = front ∙ s.spelled })
 
 reads_whole : (bytes : List ℕ) (x : Item) → Spells x bytes → item_at 16 (start bytes) ≡ Ok (x, record { at = length bytes; rest = drop (length bytes) bytes })
-reads_whole bytes x s =
-    let all : take (length bytes) bytes ≡ bytes = ap (λ (t : List ℕ). take (length bytes) t) (sym (append-nil bytes)) ∙ take_at bytes [] (length bytes) refl in
-    reads bytes x (length bytes) (omega arith) (record { proper = s.proper; ranges = s.ranges; spelled = all ∙ s.spelled })
+reads_whole bytes x s = let front = whole_front bytes x s in reads bytes x (length bytes) front.0 front.1
 
 pub one_for_one : OneForOne
 one_for_one = record {
   one_item = λ x y bytes s t.
-  (let rest : Place = record { at = length bytes; rest = drop (length bytes) bytes } in
-  ap (λ (z : Item × Place). z.0) (ok_is (x, rest) (y, rest) (sym (reads_whole bytes x s) ∙ reads_whole bytes y t)));
+      (let rest : Place = record { at = length bytes; rest = drop (length bytes) bytes } in
+      ap (λ (z : Item × Place). z.0) (ok_is (x, rest) (y, rest) (sym (reads_whole bytes x s) ∙ reads_whole bytes y t)));
   one_spelling = λ x a b s t. (s.spelled ∙ sym t.spelled);
 }

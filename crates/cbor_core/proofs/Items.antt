@@ -1,27 +1,24 @@
 -- What is read is spelled so, and what is spelled so is read.
-use Rattle.std.proofs.Common.{◌≡◌, ℕ, zero, suc, ◌+◌, ◌-◌, ◌*◌, ◌^◌, ◌<◌, ◌≤◌, ◌⊎◌, Bool, true, false, cond, List, [], ◌∷◌, ◌++◌, length, get_or, take, drop, Option, Some, None, Result, Ok, Err, refl, sym, ap, subst, ◌∙◌, append_assoc, arith, inl, inr, lit≤, lit<}
+use Rattle.std.proofs.Common.{◌≡◌, ℕ, zero, suc, ◌+◌, ◌-◌, ◌^◌, ◌<◌, ◌≤◌, Bool, true, false, cond, List, [], ◌∷◌, ◌++◌, length, take, Some, None, Ok, Err, refl, sym, ap, subst, ◌∙◌, append_assoc, arith, inl, inr}
 use Rattle.std.specs.Prelude.{nat_lt, ◌==◌}
-use Rattle.std.specs.List.{flat_map, AllByRecursion}
-use Rattle.std.specs.Str.{IsUtf8, is_utf8}
-use Rattle.std.proofs.lemmas.Bool.{cases_Bool, cases_lt, ltb-false, ltb-true, le-ltb, lt-ltb, eqb-true, eq-eqb}
-use Rattle.std.proofs.lemmas.Str.{is_utf8-from_IsUtf8, IsUtf8-from_is_utf8}
-use Rattle.std.proofs.lemmas.List.{append-nil, take_at, drop_at, take-append-drop, length-append, length-take}
+use Rattle.std.specs.List.{AllByRecursion}
+use Rattle.std.specs.Str.{is_utf8}
+use Rattle.std.proofs.lemmas.Bool.{cases_Bool, ltb-false, eqb-true, eq-eqb}
+use Rattle.std.proofs.lemmas.Str.{IsUtf8-from_is_utf8}
+use Rattle.std.proofs.lemmas.List.{append-nil, take_at, take-append-drop, length-append, length-take}
 use Rattle.std.proofs.lemmas.List.Concat.{flat_map-cons}
 use Rattle.cbor_core.specs.declared.item.Item.{Item, out-Item}
-use Rattle.cbor_core.specs.declared.item.Item.TheOpen.{Item-F}
 use Rattle.cbor_core.specs.declared.item.Item.TheVariants as i
 use Rattle.cbor_core.specs.declared.item.Pair.{Pair}
-use Rattle.cbor_core.specs.declared.fault.Fault.{Fault}
 use Rattle.cbor_core.specs.declared.fault.Why.TheVariants as why
 use Rattle.cbor_core.specs.declared.head.Kind.{Kind}
 use Rattle.cbor_core.specs.declared.head.Kind.TheVariants as k
 use Rattle.cbor_core.specs.declared.head.Head.{Head}
 use Rattle.cbor_core.specs.Place.{Place, skip}
 use Rattle.cbor_core.specs.Spelling.{head, spelling, spellings, pair_spelling, pair_spellings, bytes_below, KeysAscend, IsBytes, IsSpellable}
-use Rattle.cbor_core.specs.Reading.{Outcome, Reader, ◌>>=◌, fault, kind_of, head_at, part, text_by, bytes_at, text_at, items_at, pairs_at, between, array_at, map_at, tag_at, simple, content, item_by, item_at, inside}
+use Rattle.cbor_core.specs.Reading.{Outcome, Reader, ◌>>=◌, fault, kind_of, head_at, part, text_by, bytes_at, text_at, items_at, pairs_at, between, simple, content, item_at}
 use Rattle.cbor_core.proofs.Spell.{spelling_Unsigned, spelling_Negative, spelling_Bytes, spelling_Text, spelling_Array, spelling_Map, spelling_Tag, spelling_Truth, spelling_Null, pair_spelling_out}
-use Rattle.cbor_core.proofs.Heads.{IsBytes-drop, IsBytes-take, passed, chosen, ok_is, not_ok, done, Took, HeadTook, IsHead, head_takes, head_again, head_short, false_true}
-use Rattle.cbor_core.proofs.Depth.{item_at_is}
+use Rattle.cbor_core.proofs.Heads.{IsBytes-drop, IsBytes-take, passed, chosen, ok_is, not_ok, done, Took, HeadTook, head_takes, head_short, false_true}
 use Rattle.cbor_core.proofs.Levels.{IsWholeBy, to_spellable}
 
 -- the value of a step that did not fail

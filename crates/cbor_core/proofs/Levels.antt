@@ -1,11 +1,10 @@
 -- One level of an item that has a spelling: its structure and its ranges together.
-use Rattle.std.proofs.Common.{◌≡◌, ℕ, zero, suc, ◌+◌, ◌-◌, ◌<◌, ◌^◌, Bool, true, false, List, [], ◌∷◌, length, refl, sym, subst, arith}
+use Rattle.std.proofs.Common.{◌≡◌, ℕ, zero, suc, ◌<◌, ◌^◌, Bool, true, false, List, [], ◌∷◌, length}
 use Rattle.std.specs.List.{AllByRecursion}
 use Rattle.std.specs.Str.{IsUtf8}
 use Rattle.cbor_core.specs.declared.item.Item.{Item, out-Item}
 use Rattle.cbor_core.specs.declared.item.Pair.{Pair}
 use Rattle.cbor_core.specs.declared.item.Item.TheOpen.{Item-F}
-use Rattle.cbor_core.specs.declared.item.Item.TheVariants as i
 use Rattle.cbor_core.specs.Spelling.{IsBytes, KeysAscend, IsProperBy, IsProperWithin, IsInRangeBy, HasRangesWithin, IsSpellable}
 
 -- A level in range whose parts meet P; room says whether a container may stand here.

@@ -1,11 +1,11 @@
 -- The parts of a proper item are proper.
-use Rattle.std.proofs.Common.{◌≡◌, ℕ, zero, suc, ◌+◌, Bool, true, false, List, [], ◌∷◌, refl}
+use Rattle.std.proofs.Common.{ℕ, zero, suc, Bool, true, false, List, [], ◌∷◌, refl}
 use Rattle.std.specs.List.{AllByRecursion}
 use Rattle.cbor_core.specs.declared.item.Item.{Item, out-Item}
 use Rattle.cbor_core.specs.declared.item.Pair.{Pair}
 use Rattle.cbor_core.specs.declared.item.Item.TheOpen.{Item-F}
 use Rattle.cbor_core.specs.declared.item.Item.TheVariants as i
-use Rattle.cbor_core.specs.Spelling.{KeysAscend, IsProperBy, IsProperWithin, IsProper}
+use Rattle.cbor_core.specs.Spelling.{IsProperBy, IsProperWithin, IsProper}
 use Rattle.cbor_core.specs.Law.{PartsAreProper}
 
 module _ (P Q : Item → Type 0) (widen : (x : Item) → P x → Q x) where

@@ -1,13 +1,11 @@
 -- What is faulty is refused, with that fault.
-use Rattle.std.proofs.Common.{◌≡◌, ℕ, zero, suc, ◌+◌, ◌-◌, ◌<◌, ◌≤◌, ◌⊎◌, Bool, true, false, cond, List, [], ◌∷◌, ◌++◌, length, take, drop, Option, Some, None, Result, Ok, Err, refl, sym, ap, subst, ◌∙◌, append_assoc, arith, inl, inr}
+use Rattle.std.proofs.Common.{◌≡◌, ℕ, zero, suc, ◌+◌, ◌-◌, ◌⊎◌, Bool, true, false, cond, List, [], ◌∷◌, ◌++◌, length, take, Option, Some, None, Ok, Err, refl, sym, ap, ◌∙◌, append_assoc, arith, inl, inr}
 use Rattle.std.specs.Prelude.{nat_lt}
-use Rattle.std.specs.List.{flat_map, AllByRecursion}
+use Rattle.std.specs.List.{AllByRecursion}
 use Rattle.std.specs.Str.{is_utf8}
-use Rattle.std.proofs.lemmas.Bool.{cases_Bool}
 use Rattle.std.proofs.lemmas.List.{append-nil, length-append, take_at}
 use Rattle.std.proofs.lemmas.List.Concat.{flat_map-cons}
 use Rattle.cbor_core.specs.declared.item.Item.{Item}
-use Rattle.cbor_core.specs.declared.item.Item.TheVariants as i
 use Rattle.cbor_core.specs.declared.item.Pair.{Pair}
 use Rattle.cbor_core.specs.declared.fault.Fault.{Fault}
 use Rattle.cbor_core.specs.declared.fault.Why.{Why}
@@ -15,12 +13,12 @@ use Rattle.cbor_core.specs.declared.fault.Why.TheVariants as why
 use Rattle.cbor_core.specs.declared.head.Kind.{Kind}
 use Rattle.cbor_core.specs.declared.head.Kind.TheVariants as k
 use Rattle.cbor_core.specs.declared.head.Head.{Head}
-use Rattle.cbor_core.specs.Place.{Place, skip}
-use Rattle.cbor_core.specs.Spelling.{spelling, spellings, pair_spelling, pair_spellings, bytes_below, KeysAscend, IsSpellable}
-use Rattle.cbor_core.specs.Reading.{Outcome, Reader, ◌>>=◌, fault, head_at, part, text_by, bytes_at, text_at, items_at, pairs_at, between, array_at, map_at, tag_at, simple, content, item_by, item_at}
+use Rattle.cbor_core.specs.Place.{Place}
+use Rattle.cbor_core.specs.Spelling.{spelling, spellings, pair_spelling, pair_spellings, KeysAscend, IsSpellable}
+use Rattle.cbor_core.specs.Reading.{Outcome, Reader, ◌>>=◌, fault, head_at, part, bytes_at, text_at, items_at, pairs_at, between, content, item_at}
 use Rattle.cbor_core.specs.Faulty.{behind, last_key, ArrayFault, AfterKey, MapFault, PartFault, PartFaultBy, FaultyBy, Faulty}
-use Rattle.cbor_core.specs.Table.{body_rule, table}
-use Rattle.cbor_core.proofs.Tables.{rule_by, first_rule, first_rule-table}
+use Rattle.cbor_core.specs.Table.{body_rule}
+use Rattle.cbor_core.proofs.Tables.{rule_by, first_rule-table, part_in}
 use Rattle.cbor_core.proofs.Spell.{pair_spelling_out}
 use Rattle.cbor_core.proofs.Again.{ReadsAgain, item_again, behind-append}
 use Rattle.cbor_core.proofs.Faults.{head_fault}
@@ -213,8 +211,13 @@ no_part k.Map n q f e h = not_some why.TooDeep (sym e)
 no_part k.Tag n q f e h = not_some why.TooDeep (sym e)
 no_part k.Simple n q f e h = h
 
+-- a part of what the head that was read announces is faulty
+abbrev pub PartByHead : (P : Item → Type 0) (F : Place → Fault → Type 0) → Outcome Head → Fault → Type 0
+PartByHead P F (Err g) f = ⊥
+PartByHead P F (Ok x) f = PartFault P F x.0.kind x.0.argument x.1 f
+
 -- by what the head is
-leaf_refuses : (p : Place) (f : Fault) (o : Outcome Head) → head_at p ≡ o → ((rule_by false o ≡ Some f.why) × (f.at ≡ p.at)) ⊎ ((rule_by false o ≡ None) × PartFaultBy (λ _. ⊥) (λ _ _. ⊥) o f)
+leaf_refuses : (p : Place) (f : Fault) (o : Outcome Head) → head_at p ≡ o → ((rule_by false o ≡ Some f.why) × (f.at ≡ p.at)) ⊎ ((rule_by false o ≡ None) × PartByHead (λ _. ⊥) (λ _ _. ⊥) o f)
     → (o >>= λ h. content None p.at h.0.kind h.0.argument h.1) ≡ Err f
 leaf_refuses p f (Err g) is (inl a) = ap (λ (x : Fault). Err x) (sym (fault_is g p.at f.why (head_fault p g is) (sym (some_is g.why f.why a.0))) ∙ fault_is f p.at f.why a.1 refl)
 leaf_refuses p f (Err g) is (inr b) = absurd b.1
@@ -222,7 +225,7 @@ leaf_refuses p f (Ok x) is (inl a) = body_err_leaf p.at x.0.kind x.0.argument x.
 leaf_refuses p f (Ok x) is (inr b) = absurd (no_part x.0.kind x.0.argument x.1 f b.0 b.1)
 
 inside_refuses : (inner : Reader Item) (P : Item → Type 0) (F : Place → Fault → Type 0) (law : (x : Item) → P x → ReadsAgain inner x) (refuses : RefusesIf inner F)
-    → (p : Place) (f : Fault) (o : Outcome Head) → head_at p ≡ o → ((rule_by true o ≡ Some f.why) × (f.at ≡ p.at)) ⊎ ((rule_by true o ≡ None) × PartFaultBy P F o f)
+    → (p : Place) (f : Fault) (o : Outcome Head) → head_at p ≡ o → ((rule_by true o ≡ Some f.why) × (f.at ≡ p.at)) ⊎ ((rule_by true o ≡ None) × PartByHead P F o f)
     → (o >>= λ h. content (Some inner) p.at h.0.kind h.0.argument h.1) ≡ Err f
 inside_refuses inner P F law refuses p f (Err g) is (inl a) = ap (λ (x : Fault). Err x) (sym (fault_is g p.at f.why (head_fault p g is) (sym (some_is g.why f.why a.0))) ∙ fault_is f p.at f.why a.1 refl)
 inside_refuses inner P F law refuses p f (Err g) is (inr b) = absurd b.1
@@ -231,10 +234,18 @@ inside_refuses inner P F law refuses p f (Ok x) is (inr b) = part_err inner P F 
 
 -- the rule in the table is that of the head that is read
 abbrev RuleOrPart : (P : Item → Type 0) (F : Place → Fault → Type 0) → Option Why → Place → Fault → Type 0
-RuleOrPart P F rule p f = ((rule ≡ Some f.why) × (f.at ≡ p.at)) ⊎ ((rule ≡ None) × PartFaultBy P F (head_at p) f)
+RuleOrPart P F rule p f = ((rule ≡ Some f.why) × (f.at ≡ p.at)) ⊎ ((rule ≡ None) × PartByHead P F (head_at p) f)
+
+part_by_head : (P : Item → Type 0) (F : Place → Fault → Type 0) (room : Bool) (p : Place) (f : Fault) (o : Outcome Head) → head_at p ≡ o → rule_by room o ≡ None
+    → PartFaultBy P F p p.rest f → PartByHead P F o f
+part_by_head P F room p f (Err g) is none h = absurd (not_some g.why (sym none))
+part_by_head P F room p f (Ok x) is none h = part_in P F f x p is h
 
 by_head : (P : Item → Type 0) (F : Place → Fault → Type 0) (room : Bool) (p : Place) (f : Fault) → FaultyBy P F room p f → RuleOrPart P F (rule_by room (head_at p)) p f
-by_head P F room p f h = subst (λ (rule : Option Why). RuleOrPart P F rule p f) (sym (first_rule-table room p)) h
+by_head P F room p f (inl a) = inl (first_rule-table room p ∙ a.0, a.1)
+by_head P F room p f (inr b) =
+    let none : rule_by room (head_at p) ≡ None = first_rule-table room p ∙ b.0 in
+    inr (none, part_by_head P F room p f (head_at p) refl none b.1)
 
 -- what is faulty is refused
 pub item_refuses : (d : ℕ) (p : Place) (f : Fault) → Faulty d p f → item_at d p ≡ Err f

@@ -1,19 +1,15 @@
 -- The first fault of bytes that spell no item.
-use Rattle.std.specs.Prelude.{ℕ, zero, suc, ◌+◌, ◌<◌, ◌≡◌, ◌⊎◌, Bool, true, false, nat_lt, if◌then◌else◌, List, [], ◌∷◌, ◌++◌, length, take, Result, Ok, Err, Option, Some, None}
+use Rattle.std.specs.Prelude.{ℕ, zero, suc, ◌+◌, ◌/◌, ◌%◌, ◌<◌, ◌≡◌, ◌⊎◌, Bool, true, false, List, [], ◌∷◌, ◌++◌, length, Some, None}
 use Rattle.std.specs.List.{AllByRecursion}
-use Rattle.std.specs.Str.{is_utf8}
 use Rattle.cbor_core.specs.declared.item.Item.{Item}
 use Rattle.cbor_core.specs.declared.item.Pair.{Pair}
 use Rattle.cbor_core.specs.declared.fault.Fault.{Fault}
-use Rattle.cbor_core.specs.declared.fault.Why.{Why}
 use Rattle.cbor_core.specs.declared.fault.Why.TheVariants as why
 use Rattle.cbor_core.specs.declared.head.Kind.{Kind}
 use Rattle.cbor_core.specs.declared.head.Kind.TheVariants as k
-use Rattle.cbor_core.specs.declared.head.Head.{Head}
-use Rattle.cbor_core.specs.Place.{Place}
+use Rattle.cbor_core.specs.Place.{Place, skip}
 use Rattle.cbor_core.specs.Spelling.{spelling, spellings, pair_spellings, bytes_below, KeysAscend, IsSpellable}
-use Rattle.cbor_core.specs.Reading.{Outcome, head_at}
-use Rattle.cbor_core.specs.Table.{table}
+use Rattle.cbor_core.specs.Table.{announced, table}
 
 -- the place behind a text that stood before more bytes
 abbrev pub behind : ℕ → List ℕ → List ℕ → Place
@@ -59,13 +55,14 @@ module _ (P : Item → Type 0) (F : Place → Fault → Type 0) where
   PartFault k.Tag n q f = F q f
   PartFault _ n q f = ⊥
 
-  abbrev pub PartFaultBy : Outcome Head → Fault → Type 0
-  PartFaultBy (Err g) f = ⊥
-  PartFaultBy (Ok x) f = PartFault x.0.kind x.0.argument x.1 f
+  -- a part of what the head at the place announces is faulty
+  abbrev pub PartFaultBy : Place → List ℕ → Fault → Type 0
+  PartFaultBy p [] f = ⊥
+  PartFaultBy p (first ∷ behind) f = let head = announced (first / 32) (first % 32) (skip 1 p) in PartFault head.0.kind head.0.argument head.1 f
 
   -- the item breaks a rule by itself, or it breaks none and a part is faulty
   abbrev pub FaultyBy : Bool → Place → Fault → Type 0
-  FaultyBy room p f = ((table room p ≡ Some f.why) × (f.at ≡ p.at)) ⊎ ((table room p ≡ None) × PartFaultBy (head_at p) f)
+  FaultyBy room p f = ((table room p ≡ Some f.why) × (f.at ≡ p.at)) ⊎ ((table room p ≡ None) × PartFaultBy p p.rest f)
 
 -- the item at the place, inside which so many containers may stand, is faulty
 abbrev pub Faulty : ℕ → Place → Fault → Type 0

@@ -1,5 +1,5 @@
 -- Which bytes spell an item: core deterministic encoding (RFC 8949, sections 3 and 4.2.1).
-use Rattle.std.specs.Prelude.{ℕ, zero, suc, ◌<◌, Bool, slice_index, ◌+◌, ◌*◌, ◌^◌, ◌≡◌, nat_lt, List, [], ◌∷◌, ◌++◌, length, if◌then◌else◌, cond, true, false}
+use Rattle.std.specs.Prelude.{ℕ, zero, suc, ◌<◌, Bool, slice_index, ◌+◌, ◌*◌, ◌^◌, ◌≡◌, nat_lt, List, [], ◌∷◌, ◌++◌, length, if◌then◌else◌, true, false}
 use Rattle.std.specs.Int.{to_be_bytes, w16, w32, w64}
 use Rattle.std.specs.List.{flat_map, AllByRecursion}
 use Rattle.std.specs.Str.{IsUtf8}

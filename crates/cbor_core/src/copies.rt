@@ -78,4 +78,3 @@ fn copy_pair(alloc: Global, pair: &Pair) -> OrMemory<Pair>
     let value = copy_item(alloc, &pair.value)?;
     Ok(Pair { key, value })
 }
-

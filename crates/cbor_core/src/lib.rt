@@ -17,11 +17,11 @@ mod tests;
 mod views;
 mod writer;
 
-pub use base_types::{Boxed, Failed, List, NoMemory, Octets, OrMemory, Utf8};
+pub use base_types::{Boxed, CBOR_DEPTH_LIMIT, Failed, List, NoMemory, Octets, OrMemory, Utf8};
+pub use copies::{copy_items, copy_pairs};
 pub use fault::{CborFault, Fault, Why};
 pub use item::{Item, Pair};
-pub use reader::{decode, decode_whole};
-pub use writer::{encode, is_proper};
-pub use views::field;
-pub use copies::{copy_items, copy_pairs};
 pub use laws::{exactly_one, one_for_one, parts_are_proper, spelled_in_front};
+pub use reader::{decode, decode_whole};
+pub use views::field;
+pub use writer::{encode, is_proper};

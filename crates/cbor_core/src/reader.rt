@@ -13,12 +13,14 @@ use crate::item::{Item, Pair};
 use base_types::{Boxed, CBOR_DEPTH_LIMIT, List, Octets, Utf8};
 use std::alloc::Global;
 
+/// The answer that names a fault.
 fn bad(at: usize, why: Why) -> CborFault
     ensures { result ≡ CborFault.Bad (record { at = at; why = why }) }
 {
     CborFault::Bad(Fault { at, why })
 }
 
+/// The item of a simple value that is known.
 fn simple_item(n: u64) -> Item
     ensures { result ≡ simple n }
 {
@@ -29,6 +31,7 @@ fn simple_item(n: u64) -> Item
     }
 }
 
+/// Reads the n bytes of the byte string that began at a place.
 #[tactic(auto, unfolding(crate::specs::Reading::part))]
 fn read_bytes(alloc: Global, input: &mut Input<'_>, at: usize, n: u64) -> Result<Item, CborFault>
     ensures { Gives (bytes_at at n input.old) result input.new }
@@ -41,6 +44,7 @@ fn read_bytes(alloc: Global, input: &mut Input<'_>, at: usize, n: u64) -> Result
     Ok(Item::Bytes(Octets::from_slice(alloc, bytes)?))
 }
 
+/// Reads the n bytes of the text that began at a place.
 #[tactic(auto, using(crate::proofs::Depth::texts), unfolding(crate::specs::Reading::part))]
 fn read_text(alloc: Global, input: &mut Input<'_>, at: usize, n: u64) -> Result<Item, CborFault>
     ensures { Gives (text_at at n input.old) result input.new }
@@ -77,6 +81,7 @@ fn read_item(alloc: Global, depth: u8, input: &mut Input<'_>) -> Result<Item, Cb
     }
 }
 
+/// Reads the n members of the array that began at a place.
 #[cycle(reader)]
 #[tactic(auto, using(crate::proofs::Depth::depths))]
 fn read_array(
@@ -95,6 +100,7 @@ fn read_array(
     Ok(Item::Array(items))
 }
 
+/// Reads the item that the tag n, which began at a place, is put on.
 #[cycle(reader)]
 #[tactic(auto, using(crate::proofs::Depth::depths))]
 fn read_tag(
@@ -119,6 +125,7 @@ fn first_room(n: u64) -> usize {
     n.min(1024) as usize
 }
 
+/// Reads n items, one behind the other.
 #[cycle(reader)]
 fn read_items(
     alloc: Global,
@@ -135,6 +142,7 @@ fn read_items(
     Ok(List::from_vec(found))
 }
 
+/// Reads the n pairs of the map that began at a place.
 #[cycle(reader)]
 #[tactic(auto, using(crate::proofs::Depth::depths))]
 fn read_map(
@@ -153,19 +161,22 @@ fn read_map(
     Ok(Item::Map(pairs))
 }
 
+/// Whether an encoding stands before another, byte by byte (RFC 8949, section 4.2.1).
 fn is_below(a: &[u8], b: &[u8]) -> bool
     ensures { result ≡ bytes_below a.now b.now }
 {
     a.cmp(&b).is_lt()
 }
 
-/// The bytes before the input, of those that stood there earlier.
+/// Of the bytes that were left earlier, those that were read since.
 fn read_since<'a>(before: &'a [u8], input: &Input<'_>) -> &'a [u8]
     ensures { result.now ≡ take (length before.now - length input.now.rest) before.now }
 {
     &before[..before.len().saturating_sub(input.len())]
 }
 
+/// Reads n pairs, one behind the other. A key that is not above the one before is refused before its
+/// value is looked at.
 #[cycle(reader)]
 fn read_pairs(
     alloc: Global,
@@ -192,6 +203,7 @@ fn read_pairs(
     Ok(List::from_vec(found))
 }
 
+/// Reads the item that begins at the first byte, and how many bytes it takes.
 fn read_front(alloc: Global, bytes: &[u8]) -> Result<(Item, usize), CborFault>
     ensures { Decodes (item_at CBOR_DEPTH_LIMIT (start bytes.now)) result }
 {

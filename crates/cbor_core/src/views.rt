@@ -98,6 +98,7 @@ impl Item {
     }
 }
 
+/// Whether a key is the unsigned integer.
 fn is_labelled(key: &Item, label: u64) -> bool
     ensures { result ≡ labelled_by label (out-Item key.now) }
 {
@@ -107,7 +108,7 @@ fn is_labelled(key: &Item, label: u64) -> bool
     }
 }
 
-/// The value of the first pair whose key is the unsigned integer. None exactly where no key is.
+/// The value of the first pair whose key is the unsigned integer `label`. None exactly where no key is.
 pub fn field(pairs: &[Pair], label: u64) -> Option<&Item>
     ensures { option_copied result ≡ Views.field label pairs.now }
 {

@@ -45,6 +45,7 @@ fn push_string(out: &mut Vec<u8>, major: u8, bytes: &[u8]) -> OrMemory<()>
     Ok(())
 }
 
+/// The one byte of false or true.
 fn truth_byte(b: bool) -> u8
     ensures { result ≡ (if b then 245 else 244) }
 {
@@ -83,6 +84,7 @@ fn push_item(out: &mut Vec<u8>, depth: u8, item: &Item) -> OrMemory<bool>
     Ok(true)
 }
 
+/// Writes an array. It is refused where no container may stand.
 #[cycle(writer)]
 fn push_array(out: &mut Vec<u8>, depth: u8, members: &[Item]) -> OrMemory<bool>
     ensures { Writes result (IsSpellable depth (Item.Array members.now)) (IsProperWithin depth (Item.Array members.now)) out.old.items (spelling (Item.Array members.now)) out.new.items }
@@ -94,6 +96,7 @@ fn push_array(out: &mut Vec<u8>, depth: u8, members: &[Item]) -> OrMemory<bool>
     push_items(out, depth - 1, members)
 }
 
+/// Writes a map. It is refused where no container may stand.
 #[cycle(writer)]
 fn push_map(out: &mut Vec<u8>, depth: u8, pairs: &[Pair]) -> OrMemory<bool>
     ensures { Writes result (IsSpellable depth (Item.Map pairs.now)) (IsProperWithin depth (Item.Map pairs.now)) out.old.items (spelling (Item.Map pairs.now)) out.new.items }
@@ -105,6 +108,7 @@ fn push_map(out: &mut Vec<u8>, depth: u8, pairs: &[Pair]) -> OrMemory<bool>
     push_pairs(out, depth - 1, pairs)
 }
 
+/// Writes a tag and its content. It is refused where no container may stand.
 #[cycle(writer)]
 fn push_tag(out: &mut Vec<u8>, depth: u8, n: u64, content: &Item) -> OrMemory<bool>
     ensures { Writes result (IsSpellable depth (Item.Tag n content.now)) (IsProperWithin depth (Item.Tag n content.now)) out.old.items (spelling (Item.Tag n content.now)) out.new.items }
@@ -116,6 +120,7 @@ fn push_tag(out: &mut Vec<u8>, depth: u8, n: u64, content: &Item) -> OrMemory<bo
     push_item(out, depth - 1, content)
 }
 
+/// Writes items, one behind the other.
 #[cycle(writer)]
 fn push_items(out: &mut Vec<u8>, depth: u8, items: &[Item]) -> OrMemory<bool>
     ensures { Writes result (AllByRecursion (IsSpellable depth) items.now) (AllByRecursion (IsProperWithin depth) items.now) out.old.items (spellings items.now) out.new.items }
@@ -128,7 +133,7 @@ fn push_items(out: &mut Vec<u8>, depth: u8, items: &[Item]) -> OrMemory<bool>
     Ok(true)
 }
 
-/// Writes a key that is to be above the last one, which stands between two places.
+/// Writes a key that is to be above the last one, whose encoding stands between two places.
 #[cycle(writer)]
 fn push_key(
     out: &mut Vec<u8>,
@@ -151,6 +156,8 @@ fn push_key(
     Ok(is_above(out.as_slice(), last_start, last_end, start))
 }
 
+/// Writes pairs, one behind the other, whose keys are to ascend. Each key's encoding is compared where
+/// it was written.
 #[cycle(writer)]
 fn push_pairs(out: &mut Vec<u8>, depth: u8, pairs: &[Pair]) -> OrMemory<bool>
     ensures { Writes result (PairsAre (IsSpellable depth) [] pairs.now) (PairsAre (IsProperWithin depth) [] pairs.now) out.old.items (pair_spellings pairs.now) out.new.items }

@@ -1,7 +1,11 @@
-use Rattle.std.proofs.Common.{rules, arith}
 use Rattle.std.proofs.lemmas.Result.{err_from_is_err_and}
-use Rattle.cbor_core.proofs.Inputs.{refused_err, refused_extra, refused_not}
+use Rattle.cbor_core.proofs.Inputs.{only_err, refused_err, refused_extra, refused_not}
 use Rattle.cbor_core.proofs.reader.decode_whole.Goals as goal
+
+pub returns-in_err-item-clause-only : goal.returns-in_err-item-clause-only
+returns-in_err-item-clause-only c x s =
+    let p = err_from_is_err_and c.from_residual.result c.from_residual.ensures.1 in
+    rw (p.1, p.2) (only_err c.args.bytes.now c.in_err-item.field-0.0 c.in_err-item.ensures.only x s)
 
 pub returns-in_err-item-clause-refused : goal.returns-in_err-item-clause-refused
 returns-in_err-item-clause-refused c f h =

@@ -41,8 +41,8 @@ push_pairs-loop-pair-preserved t c =
     let longest = ap length value.1 in
     record {
       left = pairs_more c.args.depth c.args.pairs.now (drop c.loop-pair.pair-index c.args.pairs.now) _ c.pair-item.result c.args.out.now.items c.loop-pair.out.items c.push_key.new.out.items c.push_item.new.out.items
-      c.loop-pair.last_start c.loop-pair.last_end c.len-start.result c.len-last_end.result
-      (next_pair c.args.pairs.now c.loop-pair.pair-index c.pair-item.result c.loop-pair-test.true c.pair-item.is) c.loop-pair.invariant.left start end key.0 key.1 value.0 value.1;
+          c.loop-pair.last_start c.loop-pair.last_end c.len-start.result c.len-last_end.result
+          (next_pair c.args.pairs.now c.loop-pair.pair-index c.pair-item.result c.loop-pair-test.true c.pair-item.is) c.loop-pair.invariant.left start end key.0 key.1 value.0 value.1;
       ordered = omega (arith, start, end, longer, length-append c.loop-pair.out.items (spelling c.pair-item.result.key));
       within = omega (arith, end, longest, length-append c.push_key.new.out.items (spelling c.pair-item.result.value));
     }

@@ -1,4 +1,4 @@
-use Rattle.std.proofs.Common.{◌≡◌, ◌≤◌, length, drop}
+use Rattle.std.proofs.Common.{◌≤◌, length, drop}
 use Rattle.std.specs.List.{slice_range}
 use Rattle.cbor_core.proofs.Written.{ItemsLeft, PairsLeft}
 use Rattle.cbor_core.proofs.writer.+writer.Given as goal
