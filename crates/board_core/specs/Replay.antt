@@ -1,0 +1,75 @@
+-- What a list of calls leaves, and what a crash inside one of them may leave.
+use Rattle.std.specs.Prelude.{◌≡◌, ◌+◌, ◌/◌, ◌⊎◌, ◌++◌, List, [], ◌∷◌, ℕ, zero, suc, Bool, true, false, length, take, drop, leb, ◌&&◌, if◌then◌else◌}
+use Rattle.board_core.specs.Moments.{Begins, SameOutside, SendsSome, written}
+use Rattle.board_core.specs.declared.call.Call.{Call}
+use Rattle.board_core.specs.declared.call.Call.TheVariants.{Read, Send, Load, Put, Sync}
+
+pub record State : Type 1 where
+  pub sent : List ℕ
+  pub bytes : List ℕ
+  pub stored : ℕ
+  pub clean : Bool
+  -- the images that a crash may leave now
+  pub may : List ℕ → Type 0
+
+abbrev pub fresh : List ℕ → State
+fresh image = record { sent = []; bytes = image; stored = 0; clean = true; may = λ after. after ≡ image }
+
+-- what is done of so many bytes: all, or the first half
+abbrev pub done : Bool → List ℕ → List ℕ
+done ok bytes = if ok then bytes else take (length bytes / 2) bytes
+
+abbrev pub step : State → Call → State
+step s Read = s
+step s (Send bytes ok) = record s { sent = s.sent ++ done ok bytes.items }
+step s Load = s
+step s (Put at bytes ok) = record s {
+  bytes = written s.bytes at (done ok bytes.items);
+  stored = s.stored + length bytes.items;
+  clean = false;
+  may = λ image. (was : List ℕ) × s.may was × SameOutside at (length bytes.items) was image;
+}
+step s (Sync true) = record s { clean = true; may = λ image. image ≡ s.bytes }
+step s (Sync false) = s
+
+abbrev pub replay : State → List Call → State
+replay s [] = s
+replay s (call ∷ calls) = replay (step s call) calls
+
+-- what a stop between two calls may leave
+abbrev pub Between : State → List ℕ → List ℕ → Type 0
+Between s sent image = (sent ≡ s.sent) × s.may image
+
+-- what a stop inside a call may leave
+abbrev pub Inside : State → Call → List ℕ → List ℕ → Type 0
+Inside s Read sent image = Between s sent image
+Inside s (Send bytes ok) sent image = SendsSome bytes.items s.sent sent × s.may image
+Inside s Load sent image = Between s sent image
+Inside s (Put at bytes ok) sent image = (sent ≡ s.sent) × ((was : List ℕ) × s.may was × SameOutside at (length bytes.items) was image)
+Inside s (Sync ok) sent image = Between s sent image
+
+-- what a stop at some moment from call t on may leave
+abbrev pub LeftFrom : State → List Call → ℕ → List ℕ → List ℕ → Type 0
+LeftFrom s [] t sent image = Between s sent image
+LeftFrom s (call ∷ calls) zero sent image = Inside s call sent image ⊎ LeftFrom (step s call) calls zero sent image
+LeftFrom s (call ∷ calls) (suc t) sent image = LeftFrom (step s call) calls t sent image
+
+-- a put lies within the image
+abbrev pub fits : ℕ → Call → Bool
+fits size (Put at bytes ok) = leb (at + length bytes.items) size
+fits size Read = true
+fits size (Send bytes ok) = true
+fits size Load = true
+fits size (Sync ok) = true
+
+abbrev pub all_fit : ℕ → List Call → Bool
+all_fit size [] = true
+all_fit size (call ∷ calls) = fits size call && all_fit size calls
+
+-- a call that leaves the image as it is
+abbrev pub IsIdle : Call → Type 0
+IsIdle (Put at bytes ok) = ⊥
+IsIdle Read = Unit {0}
+IsIdle (Send bytes ok) = Unit {0}
+IsIdle Load = Unit {0}
+IsIdle (Sync ok) = Unit {0}
