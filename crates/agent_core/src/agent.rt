@@ -28,9 +28,9 @@ impl Agent {
 
     /// The reply to an event.
     ///
-    /// A question gets the QueryResponse with its token, in a frame of kind 0x81
-    /// (draft-ietf-teep-protocol section 4.3). A message that is no question is refused by 4, and
-    /// every other event by 1, in a frame of kind 0x82. After `NoMemory` the agent is as before.
+    /// A question gets the QueryResponse with its token, in a frame of kind 0x81. A message that is
+    /// no question is refused by 4, and every other event by 1, in a frame of kind 0x82. After
+    /// `NoMemory` the agent is as before.
     pub fn deliver(&mut self, alloc: Global, event: &Event) -> Result<Reply, AgentFault>
         ensures answers { IfOk result (λ reply. Answers event.now (frame_of reply)) }
         ensures unchanged { OnErr result (self.new ≡ self.old) }

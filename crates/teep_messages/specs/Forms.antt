@@ -1,4 +1,4 @@
--- The one question that is read and the one answer that is written (TEEP protocol, draft-ietf-teep-protocol, sections 4.2 and 4.3).
+-- The one question that is read and the one answer that is written, in this product's profile of the TEEP protocol.
 use Rattle.std.specs.Prelude.{◌≡◌, ◌+◌, ◌≤◌, ◌++◌, List, [], ◌∷◌, ℕ, length}
 use Rattle.teep_messages.specs.declared.message.Message.{Message}
 use Rattle.teep_messages.specs.declared.message.Message.TheVariants.{QueryRequest, QueryResponse}

@@ -5,7 +5,7 @@ use crate::fault::MessageFault;
 use base_types::{Octets, OrMemory};
 use std::alloc::Global;
 
-/// A message of the TEEP protocol (draft-ietf-teep-protocol section 4).
+/// A message of this product's profile of the TEEP protocol.
 #[derive(Debug, Drop, Eq, PartialEq)]
 pub enum Message {
     /// A manager's question. `items` are the bits of what it wants to know.
