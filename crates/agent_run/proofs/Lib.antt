@@ -1,2 +1,4 @@
 pub mod Pieces
 pub mod Looks
+pub mod OneReading
+pub mod Looping

@@ -10,7 +10,7 @@ use crate::frame::{Next, next_frame};
 use crate::status::Status;
 use crate::turn::{Turn, answer};
 use crate::words::is_run;
-use agent_core::{Agent, event_of};
+use agent_core::Agent;
 use base_types::{FRAME_IN_LIMIT, INPUT_LIMIT};
 use board_core::Board;
 use std::alloc::Global;
@@ -73,14 +73,11 @@ fn run_frames<B: Board>(alloc: Global, board: &mut B) -> Status
     let mut taken = 0;
     loop {
         match next_frame(alloc, board, &mut taken) {
-            Next::Got { kind, body } => {
-                let event = event_of(kind, body);
-                match answer(alloc, &mut agent, board, &event) {
-                    Turn::Sent => {}
-                    Turn::SendFault => return Status::SendFault,
-                    Turn::NoMemory => return Status::NoMemory,
-                }
-            }
+            Next::Got { kind, body } => match answer(alloc, &mut agent, board, kind, body) {
+                Turn::Sent => {}
+                Turn::SendFault => return Status::SendFault,
+                Turn::NoMemory => return Status::NoMemory,
+            },
             Next::Whole => return Status::Done,
             Next::Long => return Status::LongFrame,
             Next::Cut => return Status::CutFrame,
