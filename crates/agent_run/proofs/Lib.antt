@@ -2,3 +2,4 @@ pub mod Pieces
 pub mod Looks
 pub mod OneReading
 pub mod Looping
+pub mod Exactly
