@@ -40,15 +40,15 @@ left_pushed s (d ∷ ds) c zero sent image le left = elim left [
 ]
 left_pushed s (d ∷ ds) c (suc t) sent image le left = left_pushed (step s d) ds c t sent image (omega arith) left
 
-torn_same : (at n : ℕ) (l : List ℕ) → SameOutside at n l l
+pub torn_same : (at n : ℕ) (l : List ℕ) → SameOutside at n l l
 torn_same at n l = record { length_kept = refl; before = refl; behind = refl }
 
 -- the moment before a call is the first inside it
 between_inside : (s : State) (c : Call) (sent image : List ℕ) → Between s sent image → Inside s c sent image
-between_inside s Read sent image now = now
-between_inside s (Send bytes ok) sent image now = (([], (bytes.items, refl), now.0 ∙ sym (append-nil s.sent)), now.1)
-between_inside s Load sent image now = now
-between_inside s (Put at bytes ok) sent image now = (now.0, (image, now.1, torn_same at (length bytes.items) image))
+between_inside s (Read ok) sent image now = now
+between_inside s (Send bytes ok) sent image now = (([], (bytes, refl), now.0 ∙ sym (append-nil s.sent)), now.1)
+between_inside s (Load ok) sent image now = now
+between_inside s (Put at bytes ok) sent image now = (now.0, (image, now.1, torn_same at (length bytes) image))
 between_inside s (Sync ok) sent image now = now
 
 left_kept : (s : State) (cs : List Call) (c : Call) (t : ℕ) (sent image : List ℕ) → t ≤ length cs → LeftFrom s cs t sent image → LeftFrom s (cs ++ c ∷ []) t sent image
@@ -98,10 +98,10 @@ pub done_short : (ok : Bool) (bytes : List ℕ) → length (done ok bytes) ≤ l
 done_short true bytes = omega arith
 done_short false bytes = simp length-take (omega arith)
 
-le_of : (a b : ℕ) → leb a b ≡ true → a ≤ b
+pub le_of : (a b : ℕ) → leb a b ≡ true → a ≤ b
 le_of a b h = grind (arith, nat_tests)
 
-and_true : (a b : Bool) → (a && b) ≡ true → (a ≡ true) × (b ≡ true)
+pub and_true : (a b : Bool) → (a && b) ≡ true → (a ≡ true) × (b ≡ true)
 and_true true b h = (refl, h)
 and_true false b h = absurd (let no : false ≡ true = h in cc)
 
@@ -109,12 +109,12 @@ pub sound_fresh : (image : List ℕ) → Sound (length image) (fresh image)
 sound_fresh image = record { stands = refl; only = λ clean after is. is; measured = refl }
 
 pub sound_step : (size : ℕ) (s : State) (c : Call) → IsTrue (fits size c) → Sound size s → Sound size (step s c)
-sound_step size s Read fit sound = sound
+sound_step size s (Read ok) fit sound = sound
 sound_step size s (Send bytes ok) fit sound = record { stands = sound.stands; only = sound.only; measured = sound.measured }
-sound_step size s Load fit sound = sound
+sound_step size s (Load ok) fit sound = sound
 sound_step size s (Put at bytes ok) fit sound =
-    let within : at + length bytes.items ≤ length s.bytes = rw sound.measured (le_of (at + length bytes.items) size fit) in
-    let torn = written_torn s.bytes at (length bytes.items) (done ok bytes.items) within (done_short ok bytes.items) in
+    let within : at + length bytes ≤ length s.bytes = rw sound.measured (le_of (at + length bytes) size fit) in
+    let torn = written_torn s.bytes at (length bytes) (done ok bytes) within (done_short ok bytes) in
     record {
       stands = (s.bytes, sound.stands, torn);
       only = λ clean. absurd (let no : false ≡ true = clean in cc);

@@ -1,38 +1,30 @@
 // What a board in memory has been through: the image that it had at first, and each call.
-ghost use Rattle.std.specs.Prelude.{◌≡◌, ◌+◌, ◌≤◌, ◌++◌, [], ◌∷◌, length, take, drop, true, OnOk, OnErr, IsTrue};
+ghost use Rattle.std.specs.Prelude.{◌≡◌, ◌+◌, ◌≤◌, ◌++◌, [], ◌∷◌, length, take, drop, true, OnOk, OnErr, IfOk, IsTrue};
 ghost use Rattle.board_core.specs.Replay.{fresh, replay, all_fit, done, IsIdle};
 ghost use Rattle.board_core.specs.Moments.{written};
 
 use crate::call::Call;
-use std::alloc::{AllocError, Global};
+use base_types::{List, Octets, OrMemory};
+use std::alloc::Global;
 
 #[derive(Drop)]
 pub struct History {
-    pub first: Vec<u8>,
+    pub first: Octets,
     pub image: Vec<u8>,
-    pub calls: Vec<Call>,
-    ghost followed: { image.items ≡ (replay (fresh first.items) calls.items).bytes },
-    ghost puts_fit: { all_fit (length first.items) calls.items ≡ true },
+    pub calls: List<Call>,
+    ghost followed: { image.items ≡ (replay (fresh first) calls).bytes },
+    ghost puts_fit: { all_fit (length first) calls ≡ true },
 }
 
-// Notes one more call; the image is its own affair.
-fn note(calls: &mut Vec<Call>, call: Call) -> Result<(), AllocError>
-    ensures ok { OnOk result (calls.new.items ≡ calls.old.items ++ call ∷ []) }
-    ensures err { OnErr result (calls.new.items ≡ calls.old.items) }
-{
-    calls.push(call)?;
-    Ok(())
-}
-
-// What takes place of a call on these bytes: all, or the first half.
-fn part_done(bytes: &[u8], ok: bool) -> &[u8]
+/// What takes place of a call on these bytes: all, or the first half.
+pub fn part_done(bytes: &[u8], ok: bool) -> &[u8]
     ensures { result.now ≡ done ok bytes.now }
 {
     if ok { bytes } else { &bytes[..bytes.len() / 2] }
 }
 
-// Writes over a part of the image.
-fn write(image: &mut Vec<u8>, at: usize, bytes: &[u8])
+/// Writes over a part of the image.
+pub fn write(image: &mut Vec<u8>, at: usize, bytes: &[u8])
     requires { at + length bytes.now ≤ length image.old.items }
     ensures { image.new.items ≡ written image.old.items at bytes.now }
 {
@@ -40,33 +32,52 @@ fn write(image: &mut Vec<u8>, at: usize, bytes: &[u8])
 }
 
 impl History {
-    ghost use Rattle.board_core.specs.Noted.{Noted, IsPut, Untouched};
+    ghost use Rattle.board_core.specs.History.{Noted, Untouched};
+    ghost use Rattle.board_core.specs.declared.call.Call.TheVariants.{Send, Put};
 
-    /// A call that leaves the image as it is.
-    pub fn idle(&mut self, call: Call) -> Result<(), AllocError>
+    /// The history of a board with this image, of which no call was made.
+    pub fn new(alloc: Global, first: Octets) -> OrMemory<History>
+        ensures { IfOk result (λ h. (h.first ≡ first) × (h.calls ≡ [])) }
+    {
+        let image = Vec::from_slice(alloc, first.as_slice())?;
+        Ok(History {
+            first,
+            image,
+            calls: List::new(alloc),
+        })
+    }
+
+    /// Notes a call that leaves the image as it is. Refused for want of memory alone, and all is as before then.
+    pub fn idle(&mut self, call: Call) -> OrMemory<()>
         requires { IsIdle call }
         ensures ok { OnOk result (Noted call self.old self.new) }
         ensures err { OnErr result (Untouched self.old self.new) }
     {
-        note(&mut self.calls, call)?;
-        Ok(())
+        self.calls.push(call)
     }
 
-    /// A put, of which the first half takes place where it fails.
-    pub fn put(&mut self, alloc: Global, at: u64, bytes: &[u8], ok: bool) -> Result<(), AllocError>
-        requires { at + length bytes.now ≤ length self.old.image.items }
-        ensures ok { OnOk result (IsPut at bytes.now ok self.old self.new) }
+    /// Notes a send, of which the first half takes place where it fails.
+    pub fn send(&mut self, alloc: Global, bytes: &[u8], ok: bool) -> OrMemory<()>
+        ensures ok { OnOk result (Noted (Send bytes.now ok) self.old self.new) }
         ensures err { OnErr result (Untouched self.old self.new) }
     {
-        let kept = Vec::from_slice(alloc, bytes)?;
-        note(
-            &mut self.calls,
-            Call::Put {
-                at,
-                bytes: kept,
-                ok,
-            },
-        )?;
+        let bytes = Octets::from_slice(alloc, bytes)?;
+        self.idle(Call::Send { bytes, ok })
+    }
+
+    /// Notes a put and writes it; where it fails, its first half.
+    pub fn put(&mut self, alloc: Global, at: u64, bytes: &[u8], ok: bool) -> OrMemory<()>
+        requires { at + length bytes.now ≤ length self.old.image.items }
+        ensures ok { OnOk result (Noted (Put at bytes.now ok) self.old self.new) }
+        ensures err { OnErr result (Untouched self.old self.new) }
+    {
+        let kept = Octets::from_slice(alloc, bytes)?;
+        let call = Call::Put {
+            at,
+            bytes: kept,
+            ok,
+        };
+        self.calls.push(call)?;
         write(&mut self.image, at as usize, part_done(bytes, ok));
         Ok(())
     }

@@ -1,19 +1,18 @@
-use Rattle.std.proofs.Common.{drop, ◌∙◌, ap, length, arith, ◌+◌, ◌≤◌}
-use Rattle.board_core.specs.MemoryLaws.{measured_law}
-use Rattle.board_core.proofs.Told.{put_told, put_moments}
+use Rattle.std.proofs.Common.{drop, arith, length, ◌+◌, ◌≤◌}
+use Rattle.board_core.proofs.Told.{put_told, put_moments, long}
 use Rattle.board_core.proofs.memory_board.MemoryBoardBoard.put.Goals as goal
 
 pub put-requires : goal.put-requires
-put-requires c = let long = ap length c.args.self.now.history.followed ∙ measured_law c.args.self.now.history in omega (arith, long)
+put-requires c = omega (arith, c.requires, long c.args.self.now.history)
 
 pub returns-in-Ok-clause-contents : goal.returns-in-Ok-clause-contents
-returns-in-Ok-clause-contents c = λ told. put_told c.args.self.now.taken (drop c.args.self.now.taken c.args.self.now.input.items) c.args.self.now.history c.put.new.self c.args.at c.args.bytes.now _ c.in-Ok.ensures.ok c.requires _ c.if-ok.true
+returns-in-Ok-clause-contents c = put_told c.args.self.now.taken (drop c.args.self.now.taken c.args.self.now.input) c.args.self.now.history c.put.new.self c.args.at c.args.bytes.now _ c.in-Ok.ensures.ok c.requires _ c.if-ok.true
 
 pub returns-in-Ok-clause-moments : goal.returns-in-Ok-clause-moments
-returns-in-Ok-clause-moments c = λ told. put_moments c.args.self.now.taken (drop c.args.self.now.taken c.args.self.now.input.items) c.args.self.now.history c.put.new.self c.args.at c.args.bytes.now _ c.in-Ok.ensures.ok c.requires
+returns-in-Ok-clause-moments c = put_moments c.args.self.now.taken (drop c.args.self.now.taken c.args.self.now.input) c.args.self.now.history c.put.new.self c.args.at c.args.bytes.now _ c.in-Ok.ensures.ok
 
 pub returns-in-Ok-2-clause-contents : goal.returns-in-Ok-2-clause-contents
-returns-in-Ok-2-clause-contents c = λ told. put_told c.args.self.now.taken (drop c.args.self.now.taken c.args.self.now.input.items) c.args.self.now.history c.put.new.self c.args.at c.args.bytes.now _ c.in-Ok.ensures.ok c.requires _ tt
+returns-in-Ok-2-clause-contents c = put_told c.args.self.now.taken (drop c.args.self.now.taken c.args.self.now.input) c.args.self.now.history c.put.new.self c.args.at c.args.bytes.now _ c.in-Ok.ensures.ok c.requires _ tt
 
 pub returns-in-Ok-2-clause-moments : goal.returns-in-Ok-2-clause-moments
-returns-in-Ok-2-clause-moments c = λ told. put_moments c.args.self.now.taken (drop c.args.self.now.taken c.args.self.now.input.items) c.args.self.now.history c.put.new.self c.args.at c.args.bytes.now _ c.in-Ok.ensures.ok c.requires
+returns-in-Ok-2-clause-moments c = put_moments c.args.self.now.taken (drop c.args.self.now.taken c.args.self.now.input) c.args.self.now.history c.put.new.self c.args.at c.args.bytes.now _ c.in-Ok.ensures.ok
