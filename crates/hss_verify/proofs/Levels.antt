@@ -1,12 +1,12 @@
 -- The number of levels and the top key at their places in a public key, and a signature's links.
-use Rattle.std.proofs.Common.{◌≡◌, ℕ, ◌+◌, ◌-◌, ◌^◌, ◌<◌, ◌≤◌, List, [], ◌++◌, length, take, drop, get_or, subst, refl, sym, ◌∙◌, ap, arith}
+use Rattle.std.proofs.Common.{◌≡◌, ℕ, ◌+◌, ◌-◌, ◌^◌, ◌<◌, ◌≤◌, List, [], ◌++◌, length, get_or, subst, refl, sym, ◌∙◌, ap, arith}
 use Rattle.std.specs.Prelude.{slice_range}
 use Rattle.std.specs.List.{flat_map}
 use Rattle.std.proofs.lemmas.List.{append_assoc, length-append, take_all}
 use Rattle.lms_core.specs.Bytes.{u32_at, u32_bytes}
 use Rattle.lms_core.proofs.Keys.{fields_at}
 use Rattle.lms_core.proofs.Parts.{back_at, part_at, parts_join, u32_at_bytes, u32_bytes_at}
-use Rattle.hss_verify.specs.Hss.{HssValid, IsChain, IsHssPublic, IsSignedBy, Link, link_bytes}
+use Rattle.hss_verify.specs.Hss.{HssValid, IsChain, IsHssPublic, IsSignedBy, link_bytes}
 
 -- what follows a number's four bytes
 pub behind_number : (bytes rest : List ℕ) (n : ℕ) → bytes ≡ u32_bytes n ++ rest → slice_range bytes 4 (length bytes) ≡ rest

@@ -1,8 +1,8 @@
 -- A chain's first link, and the rest of it.
-use Rattle.std.proofs.Common.{◌≡◌, ℕ, suc, ◌+◌, ◌-◌, ◌<◌, ◌≤◌, List, [], ◌∷◌, ◌++◌, length, take, drop, subst, refl, sym, ◌∙◌, ap, arith}
+use Rattle.std.proofs.Common.{◌≡◌, ℕ, suc, ◌+◌, ◌-◌, ◌<◌, ◌≤◌, List, [], ◌∷◌, ◌++◌, length, take, refl, sym, ◌∙◌, ap, arith}
 use Rattle.std.specs.Prelude.{slice_range}
 use Rattle.std.specs.List.{flat_map}
-use Rattle.std.proofs.lemmas.List.{append_assoc, length-append, take_at, take_all, drop-drop, take-append-drop, take_rest, length-drop}
+use Rattle.std.proofs.lemmas.List.{append_assoc, length-append, take_at, take-append-drop, take_rest}
 use Rattle.lms_core.specs.Lms.{LmsValid}
 use Rattle.lms_core.proofs.Keys.{fields_at}
 use Rattle.lms_core.proofs.Parts.{back_at, length-part, part_at, parts_join}

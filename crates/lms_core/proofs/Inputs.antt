@@ -1,7 +1,7 @@
 -- What a step of a chain hashes, written part by part.
-use Rattle.std.proofs.Common.{◌≡◌, ℕ, ◌<◌, ◌≤◌, List, [], ◌∷◌, ◌++◌, length, take, sym, ◌∙◌, ap, arith, append_assoc, set, length-append}
+use Rattle.std.proofs.Common.{◌≡◌, ℕ, ◌<◌, ◌≤◌, List, [], ◌∷◌, ◌++◌, length, take, drop, sym, ◌∙◌, ap, arith, append_assoc, set, length-append}
 use Rattle.lms_core.specs.Bytes.{u16_bytes, u32_bytes}
-use Rattle.std.proofs.lemmas.List.{take_all, take_at, take_more_set}
+use Rattle.std.proofs.lemmas.List.{drop_at, set_split, take_all, take_at, take_more_set}
 
 -- a list that is all front
 pub whole_front : (xs front : List ℕ) → length xs ≡ 55 → take 55 xs ≡ front → xs ≡ front
@@ -31,3 +31,15 @@ five_parts x1 x2 x3 x4 x5 a b c b' c' d j size eb ec e1 e2 e3 e4 e5 =
 -- a front, a digit and a value have the length of an input
 pub input_length : (xs front value : List ℕ) (j : ℕ) → length front ≡ 22 → length value ≡ 32 → xs ≡ front ++ j ∷ value → length xs ≡ 55
 input_length xs front value j front_size value_size e = ap length e ∙ simp length-append (omega (arith, front_size, value_size))
+
+-- what stands behind the digit
+pub value_behind : (xs front value : List ℕ) (j : ℕ) → length front ≡ 22 → xs ≡ front ++ j ∷ value → drop 23 xs ≡ value
+value_behind xs front value j size e =
+    let front_size : length (front ++ j ∷ []) ≡ 23 = simp length-append (omega (arith, size)) in
+    ap (drop 23) (e ∙ sym (append_assoc front (j ∷ []) value)) ∙ drop_at (front ++ j ∷ []) value 23 front_size
+
+-- another digit in its place
+pub next_digit : (xs front : List ℕ) (j : ℕ) → length xs ≡ 55 → take 22 xs ≡ front → set xs 22 j ≡ front ++ j ∷ drop 23 xs
+next_digit xs front j size begun =
+    let room : 22 < length xs = omega (arith, size) in
+    set_split xs 22 j room ∙ ap (λ (x : List ℕ). x ++ j ∷ drop 23 xs) begun

@@ -5,7 +5,7 @@ use Rattle.std.proofs.lemmas.Bool.Decides.{nat_tests}
 use Rattle.std.proofs.lemmas.List.{append_assoc, length-append, take_all}
 use Rattle.lms_core.specs.declared.parameters.OtsParams.{OtsParams}
 use Rattle.lms_core.specs.declared.public_key.PublicKey.{PublicKey}
-use Rattle.lms_core.specs.Parameters.{IsHeight, IsOtsRow, lms_table, ots_table}
+use Rattle.lms_core.specs.Parameters.{IsHeight, lms_table, ots_table}
 use Rattle.lms_core.specs.Bytes.{u32_at, u32_bytes}
 use Rattle.lms_core.proofs.Parts.{back_at, part_at, parts_join, u32_at_bytes, u32_bytes_at}
 use Rattle.lms_core.specs.Lms.{IsKnown, Spells, public_key_bytes}
@@ -17,12 +17,9 @@ lms_type_fits code h e = grind (arith, nat_tests)
 pub ots_type_fits : (code : ℕ) (params : OtsParams) → ots_table code ≡ Some params → code < 2 ^ 32
 ots_type_fits code params e = grind (arith, nat_tests)
 
--- a type in the table has one of its heights, or one of its rows
+-- a type in the table has one of its heights
 pub height_of : (code h : ℕ) → lms_table code ≡ Some h → IsHeight h
 height_of code h e = grind (arith, nat_tests)
-
-pub row_of : (code : ℕ) (params : OtsParams) → ots_table code ≡ Some params → IsOtsRow params
-row_of code params e = grind (arith, nat_tests)
 
 -- the fields of a public key stand at their places in the bytes
 pub record FieldsAt (bytes : List ℕ) (key : PublicKey) : Type 0 where

@@ -4,6 +4,7 @@ ghost use Rattle.std.specs.Prelude.{◌≡◌, ◌-◌, ◌≤◌, ◌+◌, ◌+
 ghost use Rattle.lms_core.specs.Bytes.{u16_bytes, u32_bytes};
 ghost use Rattle.lms_core.specs.Chains.{chain, chain_step};
 
+use crate::bytes::array_at;
 use sha2::{Digest, Sha256};
 
 /// One step of a chain, H(I || u32str(q) || u16str(i) || u8str(j) || tmp): step `j` of chain `i`
@@ -19,14 +20,14 @@ pub fn chain(identifier: &[u8; 16], q: u32, i: u16, from: u8, to: u8, start: &[u
     requires { from ≤ to }
     ensures { result ≡ chain identifier.now q i from (to - from) start.now }
 {
-    let mut value = *start;
+    // Of a step's input only its number, at 22, and the value, at 23, change.
     let mut input = step_input(identifier, q, i, from, start);
     for j in from..to {
         input[22] = j;
+        let value = Sha256::digest(input.as_slice());
         place(&mut input, 23, &value);
-        value = Sha256::digest(input.as_slice());
     }
-    value
+    array_at(&input, 23)
 }
 
 // What one step hashes, which fits one block of SHA-256.

@@ -103,7 +103,10 @@ fn takes_digits(rt: HostRuntime) {
     assert_eq!(rt; checksum(&digest, rows[2].0), rows[2].1);
     assert_eq!(rt; checksum(&digest, rows[3].0), rows[3].1);
     let signed = signed_string(&digest, rows[2].0);
-    assert_eq!(rt; [signed[0], signed[31], signed[32], signed[33]], [0, 31, 0x2c, 0x00]);
+    assert_eq!(rt;
+        [signed[0], signed[31], signed[32], signed[33]],
+        [0, 31, 0x2c, 0x00]
+    );
 }
 
 #[test]

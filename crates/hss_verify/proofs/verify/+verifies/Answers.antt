@@ -1,6 +1,5 @@
-use Rattle.std.proofs.Common.{◌≡◌, ℕ, ◌+◌, ◌-◌, ◌<◌, ◌≤◌, Some, length, sym, ◌∙◌, arith}
-use Rattle.hss_verify.specs.Hss.{IsChain}
-use Rattle.hss_verify.proofs.Links.{IsLinkedAt, chained, linked, linked_at, linked_from}
+use Rattle.std.proofs.Common.{◌≡◌, ◌<◌, Some, length, sym, ◌∙◌, arith}
+use Rattle.hss_verify.proofs.Links.{chained, linked, linked_at, linked_from}
 use Rattle.hss_verify.proofs.verify.+verifies.Goals as goal
 use Rattle.hss_verify.proofs.verify.+verifies.Goals.{then-bytes-lt-LMS_PUBLIC_LEN-via-then-bytes-lt-LMS_PUBLIC_LEN, then-bytes-lt-LMS_PUBLIC_LEN-via-else-bytes-lt-LMS_PUBLIC_LEN+then-bytes-len}
 
