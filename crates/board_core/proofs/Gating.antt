@@ -1,9 +1,9 @@
 -- The moments of bytes written behind a gate.
-use Rattle.std.proofs.Common.{◌≡◌, ◌+◌, ◌≤◌, ◌<◌, ◌⊎◌, ◌==◌, Bool, true, false, cond, ℕ, List, [], ◌∷◌, ◌++◌, length, take, drop, get_or, refl, sym, ◌∙◌, ap, subst, inl, inr, arith, Option, Some, None, ◌≢◌}
+use Rattle.std.proofs.Common.{◌≡◌, ◌+◌, ◌≤◌, ◌<◌, ℕ, List, length, take, drop, get_or, sym, ◌∙◌, ap, subst, inl, inr, arith, Some, None, ◌≢◌}
 use Rattle.std.proofs.lemmas.Bool.{cases_eq}
 use Rattle.std.proofs.lemmas.Bool.Decides.{eqb_tells}
 use Rattle.board_core.specs.Contents.{Contents}
-use Rattle.board_core.specs.Moments.{SameOutside, Elapses, WithinPut, OldOrNew, OnlyWithin, Settled, written}
+use Rattle.board_core.specs.Moments.{SameOutside, Elapses, WithinPut, OldOrNew, Settled, written}
 use Rattle.board_core.specs.Gates.{shown, WithinGated}
 use Rattle.board_core.proofs.Chaining.{stays, then_within, put_moments}
 use Rattle.board_core.proofs.Ranges.{before_same, behind_same, written_there}
