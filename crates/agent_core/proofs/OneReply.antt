@@ -1,6 +1,6 @@
 -- An event has one reply.
 use Rattle.std.proofs.Common.{◌≡◌, ◌⊎◌, List, [], ◌∷◌, ℕ, refl, sym, ◌∙◌, ap, inl, inr}
-use Rattle.teep_messages.specs.Forms.{IsQuestion, response_bytes}
+use Rattle.teep_messages.specs.Forms.{response_bytes}
 use Rattle.teep_messages.proofs.Parts.{one_token}
 use Rattle.agent_core.specs.Frames.{Frame}
 use Rattle.agent_core.specs.Answers.{Answers, AnswersQuestion, RefusesMessage, Replies, message_frame}

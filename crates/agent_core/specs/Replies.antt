@@ -1,5 +1,4 @@
 -- A reply of the program as a frame.
-use Rattle.std.specs.Prelude.{◌≡◌, List, ℕ}
 use Rattle.agent_core.specs.Frames.{Frame}
 use Rattle.agent_core.specs.declared.reply.Reply.{Reply}
 

@@ -1,12 +1,12 @@
 -- One look for a frame.
-use Rattle.std.proofs.Common.{◌≡◌, ◌+◌, ◌^◌, ◌≤◌, ◌<◌, ℕ, zero, suc, List, [], ◌∷◌, ◌++◌, length, get_or, refl, sym, ◌∙◌, ap, subst, inl, inr, arith, length-append, append_assoc}
+use Rattle.std.proofs.Common.{◌≡◌, ◌^◌, ◌≤◌, ◌<◌, ℕ, zero, suc, List, [], ◌∷◌, ◌++◌, length, get_or, refl, sym, ◌∙◌, ap, subst, inr, arith, length-append, append_assoc}
 use Rattle.std.proofs.lemmas.List.{append-nil, take_all}
 use Rattle.std.proofs.lemmas.Nat.{be_bytes_4}
 use Rattle.std.specs.Int.{from_be_bytes, w32}
 use Rattle.std.proofs.Common.{take}
 use Rattle.board_core.specs.Contents.{Contents}
-use Rattle.agent_core.specs.Frames.{Frame, frame_bytes, four_bytes}
-use Rattle.agent_run.specs.Reading.{Head, IsCut}
+use Rattle.agent_core.specs.Frames.{four_bytes}
+use Rattle.agent_run.specs.Reading.{IsCut}
 use Rattle.agent_run.specs.Filling.{Took}
 use Rattle.agent_run.specs.Nexts.{Came, PartCame, LongCame, Fewer, Bodies, Nexts}
 use Rattle.agent_run.specs.declared.frame.Next.{Next}

@@ -1,5 +1,5 @@
 -- The loop over frames: what holds between two frames, and what each way out of it leaves.
-use Rattle.std.proofs.Common.{◌≡◌, ◌+◌, ◌-◌, ◌≤◌, ◌<◌, ◌⊎◌, ℕ, List, [], ◌∷◌, ◌++◌, length, take, map, refl, sym, ◌∙◌, ap, subst, inl, inr, arith, length-append, append_assoc}
+use Rattle.std.proofs.Common.{◌≡◌, ◌+◌, ◌-◌, ◌≤◌, ◌<◌, ℕ, List, [], ◌∷◌, ◌++◌, length, take, map, refl, sym, ◌∙◌, ap, subst, inl, inr, arith, length-append, append_assoc}
 use Rattle.std.proofs.lemmas.List.{append-nil, append_cancel_right, flat_map_more, map-append, take_all, take_at}
 use Rattle.std.proofs.lemmas.List.Elements.{All-push, All-nil}
 use Rattle.std.proofs.Math.Seq.{take-append-add}
@@ -9,12 +9,12 @@ use Rattle.agent_core.specs.Frames.{Frame, frame_bytes, four_bytes}
 use Rattle.agent_core.specs.Events.{event_in}
 use Rattle.agent_core.specs.Answers.{Answers, Replies}
 use Rattle.agent_core.specs.declared.event.Event.{Event}
-use Rattle.agent_run.specs.Reading.{IsFrame, IsCut, IsPart, Splits, Events}
+use Rattle.agent_run.specs.Reading.{IsFrame, IsCut, IsPart, Splits}
 use Rattle.agent_run.specs.Reading.End.{Whole as whole_end, Long as long_end, Cut as cut_end, Spent as spent_end}
-use Rattle.agent_run.specs.Filling.{SameImage, Took, TookSome}
+use Rattle.agent_run.specs.Filling.{SameImage, TookSome}
 use Rattle.agent_run.specs.Nexts.{Came, PartCame, LongCame, Nexts, Grows}
 use Rattle.agent_run.specs.Turns.{Turns, OnlySent}
-use Rattle.agent_run.specs.Outcome.{Answered, AllAnswered, TakenAnswered, LastUnanswered, LastCut, Outcome, Ran}
+use Rattle.agent_run.specs.Outcome.{Answered, AllAnswered, TakenAnswered, Outcome, Ran}
 use Rattle.agent_run.specs.declared.status.Status.{Status}
 use Rattle.agent_run.specs.declared.status.Status.TheVariants as statuses
 use Rattle.agent_run.specs.declared.frame.Next.{Next}

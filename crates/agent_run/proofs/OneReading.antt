@@ -1,11 +1,11 @@
 -- An input has one list of frames and one end.
-use Rattle.std.proofs.Common.{◌≡◌, ◌+◌, ◌^◌, ◌≤◌, ◌<◌, ◌⊎◌, ℕ, List, [], ◌∷◌, ◌++◌, length, take, refl, sym, ◌∙◌, ap, subst, inl, inr, arith, length-append, append_assoc}
+use Rattle.std.proofs.Common.{◌≡◌, ◌^◌, ◌≤◌, ◌<◌, ℕ, List, [], ◌∷◌, ◌++◌, length, refl, sym, ◌∙◌, ap, subst, inl, inr, arith, length-append, append_assoc}
 use Rattle.std.proofs.lemmas.List.Elements.{recursion_from_All}
 use Rattle.std.proofs.lemmas.Nat.{from_be_bytes-to_be_bytes_4}
 use Rattle.std.specs.Int.{from_be_bytes, w32}
 use Rattle.std.specs.List.{flat_map, AllByRecursion}
 use Rattle.agent_core.specs.Frames.{Frame, frame_bytes, four_bytes}
-use Rattle.agent_run.specs.Reading.{IsFrame, Head, IsLong, IsCut, IsPart, End, EndsAs, Events, OneReading}
+use Rattle.agent_run.specs.Reading.{IsFrame, Head, IsLong, IsCut, IsPart, End, EndsAs, OneReading}
 use Rattle.agent_run.specs.Reading.End.{Whole, Long, Cut, Spent}
 use Rattle.agent_run.proofs.Looks.{length-four_bytes}
 

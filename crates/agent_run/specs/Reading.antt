@@ -1,5 +1,5 @@
 -- The frames of an input, and how it ends.
-use Rattle.std.specs.Prelude.{◌≡◌, ◌+◌, ◌^◌, ◌<◌, ◌≤◌, ◌⊎◌, ◌++◌, List, [], ◌∷◌, ℕ, length, take}
+use Rattle.std.specs.Prelude.{◌≡◌, ◌^◌, ◌<◌, ◌≤◌, ◌⊎◌, ◌++◌, List, [], ◌∷◌, ℕ, length, take}
 use Rattle.std.specs.List.{All, flat_map}
 use Rattle.agent_core.specs.Frames.{Frame, frame_bytes, four_bytes}
 

@@ -2,7 +2,7 @@ ghost use Rattle.std.specs.Prelude.{◌≡◌, ◌↔◌, ◌⊎◌, ℕ, List, 
 ghost use Rattle.teep_messages.specs.Forms.{IsQuestion, IsNoQuestion, IsReadAs, IsWritable, IsWrittenAs};
 
 use crate::fault::MessageFault;
-use base_types::{Octets, OrMemory};
+use base_types::{Octets, OrMemory, TOKEN_LEAST};
 use std::alloc::Global;
 
 /// A message of this product's profile of the TEEP protocol.
@@ -28,13 +28,19 @@ const RESPONSE_OPENING: [u8; 6] = [0x82, 0x02, 0xa2, 0x06, 0x00, 0x14];
 // The bytes of a question beside those of its token.
 const QUESTION_BESIDE_TOKEN: usize = 17;
 
+// The longest byte string whose length stands in its head byte (RFC 8949 section 3).
+const SHORT_STRING_LIMIT: usize = 23;
+
+// The greatest number that stands in its head byte (RFC 8949 section 3).
+const SHORT_NUMBER_LIMIT: u8 = 0x17;
+
 // The token and the items of a question.
 fn question(bytes: &[u8]) -> Option<(&[u8], u8)>
     ensures found { IfSome result (λ q. IsQuestion bytes.now q.0.now q.1) }
     ensures none { IfNone result (IsNoQuestion bytes.now) }
 {
     let size = bytes.len().checked_sub(QUESTION_BESIDE_TOKEN)?;
-    if size < 8 || size > 23 {
+    if size < TOKEN_LEAST || size > SHORT_STRING_LIMIT {
         return None;
     }
     let (opening, rest) = bytes.split_at(4);
@@ -45,7 +51,7 @@ fn question(bytes: &[u8]) -> Option<(&[u8], u8)>
     if opening == OPENING.as_slice()
         && usize::from(head[0]) == 0x40 + size
         && middle == SUITES_AND_PROFILES.as_slice()
-        && items <= 0x17
+        && items <= SHORT_NUMBER_LIMIT
     {
         Some((token, items))
     } else {

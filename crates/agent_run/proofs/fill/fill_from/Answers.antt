@@ -1,4 +1,4 @@
-use Rattle.std.proofs.Common.{◌∙◌, ◌+◌, ◌++◌, ◌≤◌, List, ℕ, ap, arith, take, drop, length, sym, subst, ◌≡◌}
+use Rattle.std.proofs.Common.{◌∙◌, ◌++◌, List, ℕ, ap, arith, take, drop, length, sym, subst, ◌≡◌}
 use Rattle.std.proofs.Math.Seq.{take-add}
 use Rattle.agent_run.specs.Filling.{Took}
 use Rattle.agent_run.proofs.Pieces.{took_both}

@@ -1,4 +1,4 @@
-use Rattle.std.proofs.Common.{inl, ap}
+use Rattle.std.proofs.Common.{inl}
 use Rattle.std.proofs.lemmas.Result.{err_from_is_err_and}
 use Rattle.teep_messages.proofs.Parts.{one_token}
 use Rattle.teep_messages.proofs.message.Message.read.Goals as goal
