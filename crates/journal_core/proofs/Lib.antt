@@ -1,0 +1,4 @@
+pub mod Unframing
+pub mod Prefixes
+pub mod Scanned
+pub mod Scan

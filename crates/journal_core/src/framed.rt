@@ -1,0 +1,62 @@
+ghost use Rattle.std.specs.Prelude.{◌≡◌, ◌+◌, ◌++◌, ◌∷◌, [], ◌<◌, ◌^◌, length, IfOk, OnOk};
+ghost use Rattle.journal_core.specs.Frames.{frame, framed, AreBodies};
+
+use base_types::{List, Octets, OrMemory};
+use std::alloc::Global;
+use std::marker::Model;
+
+/// An open gate: a body stands behind it.
+pub(crate) const OPEN: u8 = 0xa5;
+
+/// The gate that ends a list. Any byte that is not `OPEN` does.
+pub(crate) const CLOSED: u8 = 0;
+
+/// Bodies as the bytes that a journal puts for them, ready before a change begins.
+///
+/// Contracts see it as the list of bodies.
+#[derive(Debug, Drop)]
+pub struct Framed {
+    // each body behind an open gate and its length, and a closed gate behind the last
+    pub(crate) bytes: Vec<u8>,
+    pub(crate) lengths: Vec<u32>,
+}
+
+impl Model for Framed {
+    ghost use Rattle.std.specs.Prelude.{◌≡◌, ◌++◌, ◌∷◌, [], List, ℕ, length, map};
+    ghost use Rattle.journal_core.specs.Frames.{framed};
+    ghost use Rattle.journal_core.specs.Unframed.{bodies_in, IsFramed};
+
+    ghost Value = { List (List ℕ) };
+
+    ghost view = { λ it. bodies_in it.lengths.items it.bytes.items };
+
+    ghost invariant = { λ it. IsFramed it.lengths.items it.bytes.items };
+}
+
+impl Framed {
+    /// Frames the bodies, each shorter than 2^32 bytes; there may be none. Refused for want of memory
+    /// alone.
+    pub fn of(alloc: Global, bodies: &List<Octets>) -> OrMemory<Framed>
+        requires { AreBodies bodies.now }
+        ensures { IfOk result (λ it. it ≡ bodies.now) }
+    {
+        let mut bytes = Vec::new(alloc);
+        let mut lengths = Vec::new(alloc);
+        for body in bodies.as_slice() {
+            push_frame(&mut bytes, body.as_slice())?;
+            lengths.push(body.len() as u32)?;
+        }
+        bytes.push(CLOSED)?;
+        Ok(Framed { bytes, lengths })
+    }
+}
+
+fn push_frame(bytes: &mut Vec<u8>, body: &[u8]) -> OrMemory<()>
+    requires { length body.now < 2 ^ 32 }
+    ensures { OnOk result (bytes.new.items ≡ bytes.old.items ++ frame body.now) }
+{
+    bytes.push(OPEN)?;
+    bytes.extend_from_slice(&(body.len() as u32).to_be_bytes())?;
+    bytes.extend_from_slice(body)?;
+    Ok(())
+}

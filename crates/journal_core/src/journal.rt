@@ -1,0 +1,78 @@
+ghost use Rattle.std.specs.Prelude.{◌≡◌, ◌+◌, ◌<◌, ◌≤◌, ℕ, length, OnOk, OnErr, slice_get, Some};
+ghost use Rattle.journal_core.specs.declared.place.Place.{Place};
+ghost use Rattle.journal_core.specs.Region.{half_at};
+ghost use Rattle.journal_core.specs.Kept.{Kept, SameBut};
+
+use crate::place::Place;
+use crate::region::Region;
+use base_types::OrMemory;
+use std::marker::Model;
+
+/// A mounted journal: where the bodies of its region lie.
+///
+/// It keeps places and no bodies. What it says is true of the image that it was mounted from, and stays
+/// true through its own changes.
+#[derive(Debug, Drop)]
+pub struct Journal {
+    pub(crate) region: Region,
+    pub(crate) second: bool,
+    pub(crate) places: Vec<Place>,
+    pub(crate) used: u64,
+}
+
+impl Model for Journal {
+    ghost use Rattle.std.specs.Prelude.{◌-◌, ◌+◌, ◌*◌, ◌<◌, ◌≤◌, ◌^◌};
+    ghost use Rattle.std.specs.Vec.{vec_len, vec_capacity};
+    ghost use Rattle.journal_core.specs.Kept.{Kept};
+
+    ghost Value = { Kept };
+
+    ghost view = { λ it. record { region = it.region; second = it.second; places = it.places.items; used = it.used; spare = vec_capacity it.places - vec_len it.places } };
+
+    ghost invariant = { λ it. (it.region.at + 16 + 2 * it.region.half < 2 ^ 64) × (it.used ≤ it.region.half) };
+}
+
+impl Journal {
+    // Where the half that counts begins.
+    pub(crate) fn half_at(&self) -> u64
+        ensures { result ≡ half_at self.now.region self.now.second }
+    {
+        self.region.half_at(self.second)
+    }
+
+    /// The number of bodies.
+    pub fn count(&self) -> u64
+        ensures { result ≡ length self.now.places }
+    {
+        self.places.len() as u64
+    }
+
+    /// Where the body of an index lies in the image, and its length in bytes. The index is below the
+    /// count.
+    pub fn place(&self, index: u64) -> (u64, u64)
+        requires { index < length self.now.places }
+        ensures { slice_get self.now.places index ≡ Some (record { at = result.0; length = result.1 }) }
+    {
+        let place = self.places[index as usize];
+        (place.at, place.length)
+    }
+
+    /// How many bytes of the half the bodies take, each with its gate and its length. The closed gate
+    /// behind them is not counted.
+    pub fn used(&self) -> u64
+        ensures { result ≡ self.now.used }
+    {
+        self.used
+    }
+
+    /// Makes room for `more` bodies in the list of places, so that they need no memory later. Refused
+    /// for want of memory alone, and the list is as before whatever it answers.
+    pub fn reserve(&mut self, more: u64) -> OrMemory<()>
+        ensures room { OnOk result (more ≤ self.new.spare) }
+        ensures never_less { self.old.spare ≤ self.new.spare }
+        ensures same { SameBut self.old self.new }
+    {
+        self.places.reserve(more as usize)?;
+        Ok(())
+    }
+}
