@@ -1,3 +1,4 @@
+pub mod Chaining
 pub mod Unframing
 pub mod Prefixes
 pub mod Scanned

@@ -1,16 +1,18 @@
 -- A look through a half, over a board.
-use Rattle.std.proofs.Common.{◌≡◌, ℕ, ◌+◌, ◌-◌, ◌*◌, ◌≤◌, Bool, true, false, List, length, refl, sym, ◌∙◌, subst, arith, Result, Ok}
+use Rattle.std.proofs.Common.{◌≡◌, ℕ, ◌+◌, ◌-◌, ◌*◌, ◌≤◌, Bool, true, false, List, length, refl, sym, ◌∙◌, ap, subst, arith, Result, Ok, Err}
 use Rattle.base_types.specs.Causes.{HasCause}
 use Rattle.board_core.specs.Contents.{Contents, Faults, Silent, Same}
 use Rattle.board_core.specs.Moments.{Elapses, Passes, NoMoment}
 use Rattle.board_core.specs.Calls.{DiskCause}
-use Rattle.board_core.proofs.Chaining.{stays, then_quiet}
+use Rattle.journal_core.proofs.Chaining.{stays, then_quiet}
 use Rattle.journal_core.specs.declared.region.Region.{Region}
 use Rattle.journal_core.specs.declared.mount.Gate.TheVariants as gates
-use Rattle.journal_core.specs.Region.{region_size, half_at, HalfStands}
+use Rattle.journal_core.specs.declared.fault.JournalFault.{JournalFault}
+use Rattle.journal_core.specs.declared.fault.JournalFault.TheVariants as mount
+use Rattle.journal_core.specs.Region.{region_size, half_at, selected, HalfStands}
 use Rattle.journal_core.specs.Kept.{Kept, IsWithin}
-use Rattle.journal_core.specs.Scanning.{IsEmpty, IsOf, GateIs, behind, TakesIn}
-use Rattle.journal_core.specs.Outcome.{DiskAlone}
+use Rattle.journal_core.specs.Scanning.{IsEmpty, IsOf, GateIs, behind, TakesIn, Scans}
+use Rattle.journal_core.specs.Outcome.{DiskAlone, Mounts}
 use Rattle.journal_core.proofs.Scanned.{Scanned, begins, started, taken, closed, overrun}
 
 -- The journal has taken in some bodies of the image that was there at first, and nothing else has changed.
@@ -88,5 +90,26 @@ module _ (told : Type 0) (start : Kept) (f0 : Faults) (e0 : ℕ) (old : Contents
     pub going_closed : (tells : told) → GateIs (journal.region.half - journal.used) (behind journal mid.bytes) gates.Closed → HalfStands (begins journal) journal.region.half old.bytes (going.scanned tells).bodies
     going_closed tells gate = closed journal old.bytes (going.scanned tells) (half_within journal going.is_of tells) going.within (at_first tells gates.Closed gate)
 
-    pub going_overrun : (tells : told) → GateIs (journal.region.half - journal.used) (behind journal mid.bytes) gates.Overrun → (others : List (List ℕ)) → HalfStands (begins journal) journal.region.half old.bytes others → ⊥
-    going_overrun tells gate = overrun journal old.bytes (going.scanned tells) going.within (at_first tells gates.Overrun gate)
+    -- the half is that of the journal that began
+    same_half : (others : List (List ℕ)) → HalfStands (begins start) start.region.half old.bytes others → HalfStands (begins journal) journal.region.half old.bytes others
+    same_half others stands = subst (λ (r : Region). HalfStands (half_at r journal.second) r.half old.bytes others) (sym going.is_of.region)
+        (subst (λ (b : Bool). HalfStands (half_at start.region b) start.region.half old.bytes others) (sym going.is_of.second) stands)
+
+    pub going_overrun : (tells : told) → GateIs (journal.region.half - journal.used) (behind journal mid.bytes) gates.Overrun → (others : List (List ℕ)) → HalfStands (begins start) start.region.half old.bytes others → ⊥
+    going_overrun tells gate others stands = overrun journal old.bytes (going.scanned tells) going.within (at_first tells gates.Overrun gate) others (same_half others stands)
+
+-- a look through the half that counts is a mount
+pub mounted : (region : Region) (image : List ℕ) (start : Kept) (result : Result Kept JournalFault) → start.region ≡ region → start.second ≡ selected region image → Scans start image result → Mounts region image result
+mounted region image start (Ok journal) region_is second_is s =
+    let here : journal.region ≡ region = s.0.region ∙ region_is in
+    let selector : selected journal.region image ≡ journal.second = ap (λ (r : Region). selected r image) here ∙ sym second_is ∙ sym s.0.second in
+    (here, (s.1.0, record {
+      selector = selector;
+      stands = subst (λ (b : Bool). HalfStands (half_at journal.region b) journal.region.half image s.1.0) (sym selector) s.1.1;
+      places = s.1.2;
+      used = s.1.3;
+    }))
+mounted region image start (Err mount.NoJournal) region_is second_is s = λ bodies stands. s bodies
+    (subst (λ (r : Region). HalfStands (half_at r start.second) r.half image bodies) (sym region_is) (subst (λ (b : Bool). HalfStands (half_at region b) region.half image bodies) (sym second_is) stands))
+mounted region image start (Err mount.DiskFault) region_is second_is s = tt
+mounted region image start (Err mount.NoMemory) region_is second_is s = tt

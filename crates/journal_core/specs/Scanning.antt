@@ -42,10 +42,10 @@ pub record TakesIn (length : ℕ) (old new : Kept) : Type 0 where
   pub places : new.places ≡ old.places ++ record { at = half_at old.region old.second + old.used + 5; length = length } ∷ []
   pub used : new.used ≡ old.used + 5 + length
 
--- the half stands for bodies, whose places are kept; or for none
-abbrev pub Scans : Kept → List ℕ → Result (Unit {0}) JournalFault → Type 0
-Scans journal image (Ok x) = (bodies : List (List ℕ)) × HalfStands (half_at journal.region journal.second) journal.region.half image bodies
-    × (journal.places ≡ places_from (half_at journal.region journal.second) bodies) × (journal.used ≡ length (framed bodies))
-Scans journal image (Err mount.NoJournal) = (bodies : List (List ℕ)) → HalfStands (half_at journal.region journal.second) journal.region.half image bodies → ⊥
-Scans journal image (Err mount.DiskFault) = Unit {0}
-Scans journal image (Err mount.NoMemory) = Unit {0}
+-- the half of the journal that began stands for bodies, whose places are kept; or for none
+abbrev pub Scans : Kept → List ℕ → Result Kept JournalFault → Type 0
+Scans start image (Ok journal) = IsOf start journal × ((bodies : List (List ℕ)) × HalfStands (half_at journal.region journal.second) journal.region.half image bodies
+    × (journal.places ≡ places_from (half_at journal.region journal.second) bodies) × (journal.used ≡ length (framed bodies)))
+Scans start image (Err mount.NoJournal) = (bodies : List (List ℕ)) → HalfStands (half_at start.region start.second) start.region.half image bodies → ⊥
+Scans start image (Err mount.DiskFault) = Unit {0}
+Scans start image (Err mount.NoMemory) = Unit {0}

@@ -52,22 +52,20 @@ impl Journal {
         let size = board.size();
         prove!(region.at <= size);
         let second = selects_second(board, region)?;
-        let mut journal = Journal {
+        let journal = Journal {
             region,
             second,
             places: Vec::new(alloc),
             used: 0,
         };
-        journal.scan(board)?;
-        Ok(journal)
+        journal.scan(board)
     }
 
     // Takes in every body of the half, from its first gate to the one that is not open.
-    fn scan<B: Board>(&mut self, board: &mut B) -> Result<(), JournalFault>
-        requires within { IsWithin self.old.region (B.extent board.old) }
-        requires empty { IsEmpty self.old }
-        ensures kept { OnOk result (IsOf self.old self.new) }
-        ensures mounts { B.told → Scans self.new (B.now board.old).bytes result }
+    fn scan<B: Board>(mut self, board: &mut B) -> Result<Journal, JournalFault>
+        requires within { IsWithin self.region (B.extent board.old) }
+        requires empty { IsEmpty self }
+        ensures mounts { B.told → Scans self (B.now board.old).bytes result }
         ensures disk_fault { result ≡ Err JournalFault.DiskFault → Rose (B.faults board.old).disk (B.faults board.new).disk }
         ensures counts { DiskAlone (B.faults board.old) (B.faults board.new) }
         ensures extent { B.extent board.new ≡ B.extent board.old }
@@ -76,7 +74,7 @@ impl Journal {
     {
         loop {
             match self.next_gate(board)? {
-                Gate::Closed => return Ok(()),
+                Gate::Closed => return Ok(self),
                 Gate::Body(length) => self.take_in(length)?,
                 Gate::Overrun => return Err(JournalFault::NoJournal),
             }
