@@ -1,4 +1,3 @@
-pub mod Chaining
 pub mod Unframing
 pub mod Prefixes
 pub mod Scanned

@@ -4,7 +4,7 @@ use Rattle.base_types.specs.Causes.{HasCause}
 use Rattle.board_core.specs.Contents.{Contents, Faults, Silent, Same}
 use Rattle.board_core.specs.Moments.{Elapses, Passes, NoMoment}
 use Rattle.board_core.specs.Calls.{DiskCause}
-use Rattle.journal_core.proofs.Chaining.{stays, then_quiet}
+use Rattle.board_core.proofs.Chaining.{stays, then_quiet}
 use Rattle.journal_core.specs.declared.region.Region.{Region}
 use Rattle.journal_core.specs.declared.mount.Gate.TheVariants as gates
 use Rattle.journal_core.specs.declared.fault.JournalFault.{JournalFault}
