@@ -1,8 +1,11 @@
 pub mod Contents
 pub mod Moments
 pub mod Calls
+pub mod Faulted
 pub mod Replay
 pub mod ReplayLaws
 pub mod History
 pub mod Memory
 pub mod MemoryLaws
+pub mod Stops
+pub mod Gates

@@ -2,6 +2,7 @@
 use Rattle.std.specs.Prelude.{◌≡◌, ◌++◌, ◌⊎◌, ℕ, List, [], ◌∷◌, Bool, true, false, not, length, drop, Result, is_ok, ◌==◌, IsTrue}
 use Rattle.std.specs.List.{list_any}
 use Rattle.board_core.specs.Contents.{Contents, Faults}
+use Rattle.board_core.specs.Faulted.{faults_in}
 use Rattle.board_core.specs.History.{told_by, left_by}
 use Rattle.board_core.specs.declared.call.Call.{Call}
 use Rattle.board_core.specs.declared.memory_board.MemoryBoard.{MemoryBoard}
@@ -27,7 +28,7 @@ abbrev pub is_short : MemoryBoard → Bool
 is_short m = m.short
 
 abbrev pub faults_of : MemoryBoard → Faults
-faults_of m = record { read = m.read_faults; send = m.send_faults; disk = m.disk_faults }
+faults_of m = faults_in m.counts
 
 -- what it holds follows from its calls, and from what reads have taken off its input
 abbrev pub contents : MemoryBoard → Contents

@@ -42,6 +42,11 @@ WithinSend left old bytes sent image = SendsSome bytes old.sent sent × left old
 abbrev pub WithinPut : (ℕ → List ℕ → List ℕ → Type 0) → Contents → ℕ → ℕ → List ℕ → List ℕ → Type 0
 WithinPut left old at n sent image = (was : List ℕ) × left old.clock sent was × SameOutside at n was image
 
+-- a crash now leaves what was sent and what a load gives, as where nothing is pending
+pub record Settled (left : ℕ → List ℕ → List ℕ → Type 0) (now : Contents) : Type 0 where
+  pub sent_is : (sent image : List ℕ) → left now.clock sent image → sent ≡ now.sent
+  pub image_is : (sent image : List ℕ) → left now.clock sent image → image ≡ now.bytes
+
 -- no more was sent, and the image stands for the old value or for the new one
 abbrev pub OldOrNew : {S : Type 0} → (List ℕ → S → Type 0) → S → S → List ℕ → List ℕ → List ℕ → Type 0
 OldOrNew stands old new before sent image = (sent ≡ before) × (stands image old ⊎ stands image new)

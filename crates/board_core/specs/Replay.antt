@@ -1,5 +1,6 @@
 -- What a list of calls leaves, and what a crash inside one of them may leave.
-use Rattle.std.specs.Prelude.{◌≡◌, ◌+◌, ◌/◌, ◌⊎◌, ◌++◌, List, [], ◌∷◌, ℕ, zero, suc, Bool, true, false, length, take, leb, ◌&&◌, if◌then◌else◌}
+use Rattle.std.specs.Prelude.{◌≡◌, ◌+◌, ◌/◌, ◌⊎◌, ◌++◌, List, [], ◌∷◌, ℕ, zero, suc, Bool, true, false, length, take, leb, if◌then◌else◌}
+use Rattle.std.specs.List.{list_all}
 use Rattle.board_core.specs.Moments.{SameOutside, SendsSome, written}
 use Rattle.board_core.specs.declared.call.Call.{Call}
 use Rattle.board_core.specs.declared.call.Call.TheVariants.{Read, Send, Load, Put, Sync}
@@ -69,8 +70,7 @@ fits size (Put at bytes ok) = leb (at + length bytes) size
 fits size (Sync ok) = true
 
 abbrev pub all_fit : ℕ → List Call → Bool
-all_fit size [] = true
-all_fit size (call ∷ calls) = fits size call && all_fit size calls
+all_fit size calls = list_all (fits size) calls
 
 -- a call that leaves the image as it is
 abbrev pub IsIdle : Call → Type 0

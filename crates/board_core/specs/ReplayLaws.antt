@@ -40,7 +40,7 @@ left_pushed s (d ∷ ds) c zero sent image le left = elim left [
 ]
 left_pushed s (d ∷ ds) c (suc t) sent image le left = left_pushed (step s d) ds c t sent image (omega arith) left
 
-torn_same : (at n : ℕ) (l : List ℕ) → SameOutside at n l l
+pub torn_same : (at n : ℕ) (l : List ℕ) → SameOutside at n l l
 torn_same at n l = record { length_kept = refl; before = refl; behind = refl }
 
 -- the moment before a call is the first inside it
@@ -98,10 +98,10 @@ pub done_short : (ok : Bool) (bytes : List ℕ) → length (done ok bytes) ≤ l
 done_short true bytes = omega arith
 done_short false bytes = simp length-take (omega arith)
 
-le_of : (a b : ℕ) → leb a b ≡ true → a ≤ b
+pub le_of : (a b : ℕ) → leb a b ≡ true → a ≤ b
 le_of a b h = grind (arith, nat_tests)
 
-and_true : (a b : Bool) → (a && b) ≡ true → (a ≡ true) × (b ≡ true)
+pub and_true : (a b : Bool) → (a && b) ≡ true → (a ≡ true) × (b ≡ true)
 and_true true b h = (refl, h)
 and_true false b h = absurd (let no : false ≡ true = h in cc)
 

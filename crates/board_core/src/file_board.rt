@@ -1,24 +1,27 @@
-// Standard input, standard output and a file. It tells its counts alone.
+// Standard input, standard output and a file.
 ghost use Rattle.std.specs.Prelude.{◌≡◌, ◌+◌, ◌<◌, ◌≤◌, [], ℕ, List, length, false, IfOk};
-ghost use Rattle.base_types.specs.Causes.{Rose};
-ghost use Rattle.std.specs.declared.option.Option.{Option};
+ghost use Rattle.board_core.specs.Faulted.{no_faults, faults_in};
 
 use crate::board::Board;
+use crate::fault_counts::FaultCounts;
 use base_types::Failed;
 use std::fs::{OpenFile, OpenOptions};
 use std::io::{Read, Seek, SeekFrom, Write};
 use std::rt::Files;
 
+/// A board over standard input, standard output and a named file.
+///
+/// It tells its counts of faults and its size alone. What the file, the input and the output then hold
+/// is the system's affair: that the disk model of `Board` holds of the file is a premise.
 #[derive(Drop)]
 pub struct FileBoard<'a, R: Files> {
     rt: &'a R,
     file: Option<R::File>,
     size: u64,
-    read_faults: u64,
-    send_faults: u64,
-    disk_faults: u64,
+    counts: FaultCounts,
 }
 
+// The file, for reading and writing, and its length.
 fn open<R: Files>(rt: &R, name: &str) -> Option<(R::File, u64)> {
     let mut how = OpenOptions::new();
     how.read(true);
@@ -29,33 +32,40 @@ fn open<R: Files>(rt: &R, name: &str) -> Option<(R::File, u64)> {
 }
 
 impl<'a, R: Input + Print + Files> FileBoard<'a, R> {
-    pub fn new(rt: &'a R, name: &str) -> FileBoard<'a, R> {
-        match open(rt, name) {
+    ghost use Rattle.std.specs.Prelude.{IsNone};
+
+    /// The board whose image is the named file, with the length that it has now.
+    ///
+    /// Where the file cannot be opened for reading and writing, each disk call fails and `size()` is 0.
+    pub fn new(rt: &'a R, file: &str) -> FileBoard<'a, R>
+        ensures counts { result.counts ≡ no_faults }
+        ensures unopened { IsNone result.file → result.size ≡ 0 }
+    {
+        let counts = FaultCounts::new();
+        match open(rt, file) {
             Some((file, size)) => FileBoard {
                 rt,
                 file: Some(file),
                 size,
-                read_faults: 0,
-                send_faults: 0,
-                disk_faults: 0,
+                counts,
             },
             None => FileBoard {
                 rt,
                 file: None,
                 size: 0,
-                read_faults: 0,
-                send_faults: 0,
-                disk_faults: 0,
+                counts,
             },
         }
     }
 }
 
+// Reads the file from byte `at` on.
 fn load_from<F: Read + Seek>(file: &mut F, at: u64, buf: &mut [u8]) -> Result<(), Failed> {
     file.seek(SeekFrom::Start(at)).map_err(|_| Failed)?;
     file.read_exact(buf).map_err(|_| Failed)
 }
 
+// Writes the file from byte `at` on.
 fn put_into<F: Write + Seek>(file: &mut F, at: u64, bytes: &[u8]) -> Result<(), Failed> {
     file.seek(SeekFrom::Start(at)).map_err(|_| Failed)?;
     file.write_all(bytes).map_err(|_| Failed)
@@ -64,7 +74,7 @@ fn put_into<F: Write + Seek>(file: &mut F, at: u64, bytes: &[u8]) -> Result<(), 
 impl<'a, R: Input + Print + Files> Board for FileBoard<'a, R> {
     ghost told = { ⊥ };
 
-    ghost faults = { λ b. record { read = b.read_faults; send = b.send_faults; disk = b.disk_faults } };
+    ghost faults = { λ b. faults_in b.counts };
 
     ghost extent = { λ b. b.size };
 
@@ -85,20 +95,14 @@ impl<'a, R: Input + Print + Files> Board for FileBoard<'a, R> {
     fn read(&mut self, buf: &mut [u8]) -> Result<usize, Failed> {
         match self.rt.reader().read(buf) {
             Ok(count) => Ok(count),
-            Err(_) => {
-                self.read_faults = self.read_faults.saturating_add(1);
-                Err(Failed)
-            }
+            Err(_) => Err(self.counts.read_failed()),
         }
     }
 
     fn send(&mut self, bytes: &[u8]) -> Result<(), Failed> {
         match Print::write_all(self.rt, bytes) {
             Ok(()) => Ok(()),
-            Err(_) => {
-                self.send_faults = self.send_faults.saturating_add(1);
-                Err(Failed)
-            }
+            Err(_) => Err(self.counts.send_failed()),
         }
     }
 
@@ -112,8 +116,7 @@ impl<'a, R: Input + Print + Files> Board for FileBoard<'a, R> {
                 return Ok(());
             }
         }
-        self.disk_faults = self.disk_faults.saturating_add(1);
-        Err(Failed)
+        Err(self.counts.disk_failed())
     }
 
     fn put(&mut self, at: u64, bytes: &[u8]) -> Result<(), Failed> {
@@ -122,8 +125,7 @@ impl<'a, R: Input + Print + Files> Board for FileBoard<'a, R> {
                 return Ok(());
             }
         }
-        self.disk_faults = self.disk_faults.saturating_add(1);
-        Err(Failed)
+        Err(self.counts.disk_failed())
     }
 
     fn sync(&mut self) -> Result<(), Failed> {
@@ -132,7 +134,6 @@ impl<'a, R: Input + Print + Files> Board for FileBoard<'a, R> {
                 return Ok(());
             }
         }
-        self.disk_faults = self.disk_faults.saturating_add(1);
-        Err(Failed)
+        Err(self.counts.disk_failed())
     }
 }

@@ -16,15 +16,15 @@ pub struct History {
     ghost puts_fit: { all_fit (length first) calls ≡ true },
 }
 
-// What takes place of a call on these bytes: all, or the first half.
-fn part_done(bytes: &[u8], ok: bool) -> &[u8]
+/// What takes place of a call on these bytes: all, or the first half.
+pub fn part_done(bytes: &[u8], ok: bool) -> &[u8]
     ensures { result.now ≡ done ok bytes.now }
 {
     if ok { bytes } else { &bytes[..bytes.len() / 2] }
 }
 
-// Writes over a part of the image.
-fn write(image: &mut Vec<u8>, at: usize, bytes: &[u8])
+/// Writes over a part of the image.
+pub fn write(image: &mut Vec<u8>, at: usize, bytes: &[u8])
     requires { at + length bytes.now ≤ length image.old.items }
     ensures { image.new.items ≡ written image.old.items at bytes.now }
 {

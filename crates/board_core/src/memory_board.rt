@@ -3,7 +3,10 @@ ghost use Rattle.std.specs.Prelude.{◌≡◌, ◌+◌, ◌-◌, ◌<◌, ◌≤
 
 use crate::board::Board;
 use crate::call::Call;
+use crate::crash::{all_sent, stopped};
+use crate::fault_counts::FaultCounts;
 use crate::history::History;
+use crate::stop::Stop;
 use base_types::{Failed, List, Octets, OrMemory};
 use std::alloc::Global;
 
@@ -20,9 +23,7 @@ pub struct MemoryBoard {
     history: History,
     piece: usize,
     failing: List<u64>,
-    read_faults: u64,
-    send_faults: u64,
-    disk_faults: u64,
+    counts: FaultCounts,
     short: bool,
     ghost piece_some: { 0 < piece },
     ghost within: { taken ≤ length input },
@@ -41,7 +42,11 @@ fn hand_out(input: &[u8], at: usize, piece: usize, buf: &mut [u8]) -> usize
 }
 
 impl MemoryBoard {
-    ghost use Rattle.board_core.specs.Memory.{IsNew, calls_of, failing_of, is_short, works_at};
+    ghost use Rattle.std.specs.Prelude.{slice_get};
+    ghost use Rattle.board_core.specs.Memory.{IsNew, contents, first_of, calls_of, failing_of, left_of, is_short, works_at};
+    ghost use Rattle.board_core.specs.Replay.{fresh, replay, Inside};
+    ghost use Rattle.board_core.specs.Stops.{kind_of, StopLeaves};
+    ghost use Rattle.board_core.specs.declared.call.Call.{Call};
 
     /// A board with this input and this image, of which no call was made.
     ///
@@ -65,9 +70,7 @@ impl MemoryBoard {
             history,
             piece,
             failing,
-            read_faults: 0,
-            send_faults: 0,
-            disk_faults: 0,
+            counts: FaultCounts::new(),
             short: false,
         })
     }
@@ -84,6 +87,39 @@ impl MemoryBoard {
         ensures { result ≡ is_short self.now }
     {
         self.short
+    }
+
+    /// The bytes sent and the image that a stop inside a call leaves, by the call's number.
+    ///
+    /// The mode, below 4, says what becomes of each byte that is pending then, those of the call
+    /// included: 0, it is as at the last good sync; 1, as last put; 2, it is `a5`; 3, it is `5a`. A send
+    /// that is stopped has sent nothing in modes 0 and 2, and the first half of its bytes, rounded up,
+    /// in modes 1 and 3. Where no call has that number, what was sent and what a load gives now.
+    /// Refused for want of memory alone.
+    pub fn crash(&self, call: u64, mode: u8) -> OrMemory<(Octets, Octets)>
+        requires { mode < 4 }
+        ensures stopped { (c : Call) → slice_get (calls_of self.now) call ≡ Some c →
+            IfOk result (λ pair. StopLeaves (kind_of mode) (first_of self.now) (take call (calls_of self.now)) c pair.0 pair.1) }
+        ensures inside { (c : Call) → slice_get (calls_of self.now) call ≡ Some c →
+            IfOk result (λ pair. Inside (replay (fresh (first_of self.now)) (take call (calls_of self.now))) c pair.0 pair.1) }
+        ensures present { length (calls_of self.now) ≤ call →
+            IfOk result (λ pair. (pair.0 ≡ (contents self.now).sent) × (pair.1 ≡ (contents self.now).bytes)) }
+        ensures left { IfOk result (λ pair. left_of self.now call pair.0 pair.1) }
+    {
+        let calls = self.history.calls.as_slice();
+        let number = call as usize;
+        match self.history.calls.get(number) {
+            Some(inside) => {
+                let first = self.history.first.as_slice();
+                let stop = Stop::from_mode(mode);
+                stopped(self.alloc, first, &calls[..number], inside, stop)
+            }
+            None => {
+                let sent = all_sent(self.alloc, calls)?;
+                let image = Octets::from_slice(self.alloc, &self.history.image)?;
+                Ok((sent, image))
+            }
+        }
     }
 
     // Whether the next call is to work.
@@ -136,19 +172,15 @@ impl Board for MemoryBoard {
     {
         let ok = self.works();
         match self.history.idle(Call::Read { ok }) {
-            Err(_) => {
-                self.short = true;
-                self.read_faults = self.read_faults.saturating_add(1);
-                Err(Failed)
-            }
             Ok(()) if ok => {
                 let count = hand_out(self.input.as_slice(), self.taken, self.piece, buf);
                 self.taken += count;
                 Ok(count)
             }
-            Ok(()) => {
-                self.read_faults = self.read_faults.saturating_add(1);
-                Err(Failed)
+            Ok(()) => Err(self.counts.read_failed()),
+            Err(_) => {
+                self.short = true;
+                Err(self.counts.read_failed())
             }
         }
     }
@@ -163,15 +195,11 @@ impl Board for MemoryBoard {
     {
         let ok = self.works();
         match self.history.send(self.alloc, bytes, ok) {
+            Ok(()) if ok => Ok(()),
+            Ok(()) => Err(self.counts.send_failed()),
             Err(_) => {
                 self.short = true;
-                self.send_faults = self.send_faults.saturating_add(1);
-                Err(Failed)
-            }
-            Ok(()) if ok => Ok(()),
-            Ok(()) => {
-                self.send_faults = self.send_faults.saturating_add(1);
-                Err(Failed)
+                Err(self.counts.send_failed())
             }
         }
     }
@@ -191,18 +219,14 @@ impl Board for MemoryBoard {
     {
         let ok = self.works();
         match self.history.idle(Call::Load { ok }) {
-            Err(_) => {
-                self.short = true;
-                self.disk_faults = self.disk_faults.saturating_add(1);
-                Err(Failed)
-            }
             Ok(()) if ok => {
                 self.history.copy_out(at, buf);
                 Ok(())
             }
-            Ok(()) => {
-                self.disk_faults = self.disk_faults.saturating_add(1);
-                Err(Failed)
+            Ok(()) => Err(self.counts.disk_failed()),
+            Err(_) => {
+                self.short = true;
+                Err(self.counts.disk_failed())
             }
         }
     }
@@ -218,15 +242,11 @@ impl Board for MemoryBoard {
     {
         let ok = self.works();
         match self.history.put(self.alloc, at, bytes, ok) {
+            Ok(()) if ok => Ok(()),
+            Ok(()) => Err(self.counts.disk_failed()),
             Err(_) => {
                 self.short = true;
-                self.disk_faults = self.disk_faults.saturating_add(1);
-                Err(Failed)
-            }
-            Ok(()) if ok => Ok(()),
-            Ok(()) => {
-                self.disk_faults = self.disk_faults.saturating_add(1);
-                Err(Failed)
+                Err(self.counts.disk_failed())
             }
         }
     }
@@ -240,15 +260,11 @@ impl Board for MemoryBoard {
     {
         let ok = self.works();
         match self.history.idle(Call::Sync { ok }) {
+            Ok(()) if ok => Ok(()),
+            Ok(()) => Err(self.counts.disk_failed()),
             Err(_) => {
                 self.short = true;
-                self.disk_faults = self.disk_faults.saturating_add(1);
-                Err(Failed)
-            }
-            Ok(()) if ok => Ok(()),
-            Ok(()) => {
-                self.disk_faults = self.disk_faults.saturating_add(1);
-                Err(Failed)
+                Err(self.counts.disk_failed())
             }
         }
     }
