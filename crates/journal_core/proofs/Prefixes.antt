@@ -3,7 +3,7 @@ use Rattle.std.proofs.Common.{◌≡◌, ◌≢◌, ℕ, ◌+◌, ◌<◌, ◌�
 use Rattle.std.proofs.lemmas.List.{take_at, drop_at, append-nil}
 use Rattle.std.proofs.lemmas.Nat.{from_be_bytes-to_be_bytes_4}
 use Rattle.std.specs.Int.{to_be_bytes, from_be_bytes, w32}
-use Rattle.journal_core.specs.Frames.{frame, framed, IsBody, AreBodies}
+use Rattle.journal_core.specs.Frames.{frame, frames, IsBody, AreBodies}
 use Rattle.journal_core.specs.Region.{HalfStands}
 use Rattle.journal_core.proofs.Unframing.{opening, length-opening, behind_frame, drop-opening}
 
@@ -11,7 +11,7 @@ use Rattle.journal_core.proofs.Unframing.{opening, length-opening, behind_frame,
 pub record GoesOn (bodies others : List (List ℕ)) (more : List ℕ) (gate : ℕ) (behind : List ℕ) : Type 0 where
   pub rest : List (List ℕ)
   pub others_are : others ≡ bodies ++ rest
-  pub more_is : more ≡ framed rest ++ gate ∷ behind
+  pub more_is : more ≡ frames rest ++ gate ∷ behind
   pub sizes : AreBodies rest
 
 -- the length says which opening it is
@@ -36,13 +36,13 @@ same_front body other more behind fits other_fits same =
     }
 
 pub goes_on : (bodies others : List (List ℕ)) (more : List ℕ) (gate : ℕ) (behind : List ℕ) → AreBodies bodies → AreBodies others → gate ≢ 0xa5
-    → framed bodies ++ more ≡ framed others ++ gate ∷ behind → GoesOn bodies others more gate behind
+    → frames bodies ++ more ≡ frames others ++ gate ∷ behind → GoesOn bodies others more gate behind
 goes_on [] others more gate behind sizes other_sizes shut same = record { rest = others; others_are = refl; more_is = same; sizes = other_sizes }
 goes_on (body ∷ bodies) [] more gate behind sizes other_sizes shut same =
     let first : 0xa5 ≡ gate = cc (sym (behind_frame body bodies more) ∙ same) in
     absurd (shut (sym first))
 goes_on (body ∷ bodies) (other ∷ others) more gate behind sizes other_sizes shut same =
-    let front = same_front body other (framed bodies ++ more) (framed others ++ gate ∷ behind) sizes.0 other_sizes.0
+    let front = same_front body other (frames bodies ++ more) (frames others ++ gate ∷ behind) sizes.0 other_sizes.0
         (sym (behind_frame body bodies more) ∙ same ∙ behind_frame other others (gate ∷ behind)) in
     let inner = goes_on bodies others more gate behind sizes.1 other_sizes.1 shut front.rest_is in
     record {

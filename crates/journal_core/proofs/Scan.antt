@@ -99,8 +99,8 @@ module _ (told : Type 0) (start : Kept) (f0 : Faults) (e0 : ℕ) (old : Contents
     going_overrun tells gate others stands = overrun journal old.bytes (going.scanned tells) going.within (at_first tells gates.Overrun gate) others (same_half others stands)
 
 -- a look through the half that counts is a mount
-pub mounted : (region : Region) (image : List ℕ) (start : Kept) (result : Result Kept JournalFault) → start.region ≡ region → start.second ≡ selected region image → Scans start image result → Mounts region image result
-mounted region image start (Ok journal) region_is second_is s =
+mounted_here : (region : Region) (image : List ℕ) (start : Kept) (result : Result Kept JournalFault) → start.region ≡ region → start.second ≡ selected region image → Scans start image result → Mounts region image result
+mounted_here region image start (Ok journal) region_is second_is s =
     let here : journal.region ≡ region = s.0.region ∙ region_is in
     let selector : selected journal.region image ≡ journal.second = ap (λ (r : Region). selected r image) here ∙ sym second_is ∙ sym s.0.second in
     (here, (s.1.0, record {
@@ -109,7 +109,11 @@ mounted region image start (Ok journal) region_is second_is s =
       places = s.1.2;
       used = s.1.3;
     }))
-mounted region image start (Err mount.NoJournal) region_is second_is s = λ bodies stands. s bodies
+mounted_here region image start (Err mount.NoJournal) region_is second_is s = λ bodies stands. s bodies
     (subst (λ (r : Region). HalfStands (half_at r start.second) r.half image bodies) (sym region_is) (subst (λ (b : Bool). HalfStands (half_at region b) region.half image bodies) (sym second_is) stands))
-mounted region image start (Err mount.DiskFault) region_is second_is s = tt
-mounted region image start (Err mount.NoMemory) region_is second_is s = tt
+mounted_here region image start (Err mount.DiskFault) region_is second_is s = tt
+mounted_here region image start (Err mount.NoMemory) region_is second_is s = tt
+
+pub mounted : (region : Region) (image later : List ℕ) (start : Kept) (result : Result Kept JournalFault) → start.region ≡ region → start.second ≡ selected region image → later ≡ image
+    → Scans start later result → Mounts region image result
+mounted region image later start result region_is second_is same s = mounted_here region image start result region_is second_is (subst (λ (l : List ℕ). Scans start l result) same s)

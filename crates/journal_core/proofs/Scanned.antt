@@ -7,7 +7,7 @@ use Rattle.std.specs.List.{AllByRecursion}
 use Rattle.std.proofs.lemmas.Nat.{from_be_bytes-to_be_bytes_4}
 use Rattle.journal_core.specs.declared.place.Place.{Place}
 use Rattle.journal_core.specs.declared.mount.Gate.TheVariants as gates
-use Rattle.journal_core.specs.Frames.{frame, framed, IsBody, AreBodies}
+use Rattle.journal_core.specs.Frames.{frame, frames, IsBody, AreBodies}
 use Rattle.journal_core.specs.Place.{places_from}
 use Rattle.journal_core.specs.Region.{half_at, HalfStands}
 use Rattle.journal_core.specs.Kept.{Kept}
@@ -24,11 +24,11 @@ pub record Scanned (journal : Kept) (image : List ℕ) : Type 0 where
   pub bodies : List (List ℕ)
   pub before : List ℕ
   pub more : List ℕ
-  pub whole : image ≡ before ++ (framed bodies ++ more)
+  pub whole : image ≡ before ++ (frames bodies ++ more)
   pub place : length before ≡ begins journal
   pub sizes : AreBodies bodies
   pub places : journal.places ≡ places_from (begins journal) bodies
-  pub used : journal.used ≡ length (framed bodies)
+  pub used : journal.used ≡ length (frames bodies)
 
 pub started : (journal : Kept) (image : List ℕ) → IsEmpty journal → begins journal ≤ length image → Scanned journal image
 started journal image empty within = record {
@@ -46,23 +46,23 @@ sizes-more : (bodies : List (List ℕ)) (body : List ℕ) → AreBodies bodies �
 sizes-more [] body sizes size = (size, tt)
 sizes-more (b ∷ bodies) body sizes size = (sizes.0, sizes-more bodies body sizes.1 size)
 
-pub framed-more : (bodies : List (List ℕ)) (body : List ℕ) → framed bodies ++ frame body ≡ framed (bodies ++ body ∷ [])
-framed-more bodies body = flat_map_more frame [] bodies body
+pub frames-more : (bodies : List (List ℕ)) (body : List ℕ) → frames bodies ++ frame body ≡ frames (bodies ++ body ∷ [])
+frames-more bodies body = flat_map_more frame [] bodies body
 
-length-framed : (bodies rest : List (List ℕ)) → length (framed (bodies ++ rest)) ≡ length (framed bodies) + length (framed rest)
-length-framed bodies rest = ap (λ (l : List ℕ). length l) (flat_map-append frame bodies rest) ∙ length-append (framed bodies) (framed rest)
+length-frames : (bodies rest : List (List ℕ)) → length (frames (bodies ++ rest)) ≡ length (frames bodies) + length (frames rest)
+length-frames bodies rest = ap (λ (l : List ℕ). length l) (flat_map-append frame bodies rest) ∙ length-append (frames bodies) (frames rest)
 
 pub places-more : (at : ℕ) (bodies : List (List ℕ)) (body : List ℕ)
-    → places_from at (bodies ++ body ∷ []) ≡ places_from at bodies ++ record { at = at + length (framed bodies) + 5; length = length body } ∷ []
+    → places_from at (bodies ++ body ∷ []) ≡ places_from at bodies ++ record { at = at + length (frames bodies) + 5; length = length body } ∷ []
 places-more at [] body = let k : at + 5 ≡ at + 0 + 5 = omega arith in ap (λ (k : ℕ). record { at = k; length = length body } ∷ []) k
 places-more at (b ∷ bodies) body =
-    let k : at + 5 + length b + length (framed bodies) + 5 ≡ at + length (framed (b ∷ bodies)) + 5 = omega (arith, length-append (frame b) (framed bodies), length-frame b) in
+    let k : at + 5 + length b + length (frames bodies) + 5 ≡ at + length (frames (b ∷ bodies)) + 5 = omega (arith, length-append (frame b) (frames bodies), length-frame b) in
     ap (λ (l : List Place). record { at = at + 5; length = length b } ∷ l) (places-more (at + 5 + length b) bodies body)
     ∙ ap (λ (k : ℕ). record { at = at + 5; length = length b } ∷ (places_from (at + 5 + length b) bodies ++ record { at = k; length = length body } ∷ [])) k
 
 module _ (journal : Kept) (image : List ℕ) (s : Scanned journal image) where
   abbrev F : List ℕ
-  F = framed s.bodies
+  F = frames s.bodies
 
   front_long : length (s.before ++ F) ≡ begins journal + journal.used
   front_long = omega (arith, length-append s.before F, s.place, s.used)
@@ -92,7 +92,7 @@ module _ (journal : Kept) (image : List ℕ) (s : Scanned journal image) where
           before = s.before;
           more = rest;
           whole = s.whole ∙ ap (λ (l : List ℕ). s.before ++ (F ++ l)) more_is ∙ ap (λ (l : List ℕ). s.before ++ l) (sym (append_assoc F (frame body) rest))
-              ∙ ap (λ (l : List ℕ). s.before ++ (l ++ rest)) (framed-more s.bodies body);
+              ∙ ap (λ (l : List ℕ). s.before ++ (l ++ rest)) (frames-more s.bodies body);
           place = s.place ∙ sym begins_same;
           sizes = sizes-more s.bodies body s.sizes (let fits : length body < 2 ^ 32 = subst (λ (k : ℕ). k < 2 ^ 32) (sym long) gate.1 in fits);
           places = takes.places ∙ ap (λ (l : List Place). l ++ record { at = begins journal + journal.used + 5; length = n } ∷ []) s.places
@@ -100,7 +100,7 @@ module _ (journal : Kept) (image : List ℕ) (s : Scanned journal image) where
               ∙ ap (λ (k : ℕ). places_from (begins journal) s.bodies ++ record { at = begins journal + length F + 5; length = k } ∷ []) (sym long)
               ∙ sym (places-more (begins journal) s.bodies body) ∙ ap (λ (k : ℕ). places_from k (s.bodies ++ body ∷ [])) (sym begins_same);
           used = takes.used ∙ (let k : journal.used + 5 + n ≡ length F + length (frame body) = omega (arith, s.used, length-frame body, long) in k)
-              ∙ sym (length-append F (frame body)) ∙ ap (λ (l : List ℕ). length l) (framed-more s.bodies body);
+              ∙ sym (length-append F (frame body)) ∙ ap (λ (l : List ℕ). length l) (frames-more s.bodies body);
         }
 
     more_cons : 0 < journal.region.half - journal.used → s.more ≡ get_or s.more 0 0 ∷ drop 1 s.more
@@ -125,19 +125,19 @@ module _ (journal : Kept) (image : List ℕ) (s : Scanned journal image) where
   follows : (others : List (List ℕ)) (stands : HalfStands (begins journal) journal.region.half image others) → GoesOn s.bodies others s.more stands.gate stands.behind
   follows others stands = goes_on s.bodies others s.more stands.gate stands.behind s.sizes stands.sizes stands.shut
       (sym (drop_at s.before (F ++ s.more) (begins journal) s.place) ∙ ap (λ (l : List ℕ). drop (begins journal) l) (sym s.whole ∙ stands.whole)
-        ∙ drop_at stands.before (framed others ++ stands.gate ∷ stands.behind) (begins journal) stands.place)
+        ∙ drop_at stands.before (frames others ++ stands.gate ∷ stands.behind) (begins journal) stands.place)
 
   -- one byte of gate and a frame do not fit
-  too_far : (rest : List (List ℕ)) (gate : ℕ) (behind_gate : List ℕ) → gate ≢ 0xa5 → s.more ≡ framed rest ++ gate ∷ behind_gate → length (framed rest) + 1 ≤ journal.region.half - journal.used
+  too_far : (rest : List (List ℕ)) (gate : ℕ) (behind_gate : List ℕ) → gate ≢ 0xa5 → s.more ≡ frames rest ++ gate ∷ behind_gate → length (frames rest) + 1 ≤ journal.region.half - journal.used
       → AreBodies rest → GateIs (journal.region.half - journal.used) (behind journal image) gates.Overrun → ⊥
   too_far rest gate behind_gate shut is room sizes (inl none) = omega (arith, none, room)
   too_far [] gate behind_gate shut is room sizes (inr x) = shut (sym (ap (λ (l : List ℕ). get_or l 0 0) (behind_is ∙ is)) ∙ x.0)
   too_far (d ∷ ds) gate behind_gate shut is room sizes (inr x) =
-      let more_is : s.more ≡ opening (length d) ++ (d ++ (framed ds ++ gate ∷ behind_gate)) = is ∙ behind_frame d ds (gate ∷ behind_gate) in
+      let more_is : s.more ≡ opening (length d) ++ (d ++ (frames ds ++ gate ∷ behind_gate)) = is ∙ behind_frame d ds (gate ∷ behind_gate) in
       let number : from_be_bytes w32 (take 4 (drop 1 (behind journal image))) ≡ length d =
           ap (λ (l : List ℕ). from_be_bytes w32 (take 4 (drop 1 l))) (behind_is ∙ more_is)
-          ∙ ap (λ (l : List ℕ). from_be_bytes w32 l) (take_at (to_be_bytes w32 (length d)) (d ++ (framed ds ++ gate ∷ behind_gate)) 4 refl) ∙ from_be_bytes-to_be_bytes_4 (length d) sizes.0 in
-      let long : 6 + length d ≤ journal.region.half - journal.used = omega (arith, room, length-append (frame d) (framed ds), length-frame d) in
+          ∙ ap (λ (l : List ℕ). from_be_bytes w32 l) (take_at (to_be_bytes w32 (length d)) (d ++ (frames ds ++ gate ∷ behind_gate)) 4 refl) ∙ from_be_bytes-to_be_bytes_4 (length d) sizes.0 in
+      let long : 6 + length d ≤ journal.region.half - journal.used = omega (arith, room, length-append (frame d) (frames ds), length-frame d) in
       elim x.1 [ inl short ↦ omega (arith, short, long) | inr short ↦ omega (arith, short, long, number) ]
 
   -- the half stands for no list where the next gate is open and its frame reaches past the half
@@ -145,5 +145,5 @@ module _ (journal : Kept) (image : List ℕ) (s : Scanned journal image) where
       → (others : List (List ℕ)) → HalfStands (begins journal) journal.region.half image others → ⊥
   overrun used_within gate others stands =
       let f = follows others stands in
-      let long : length (framed others) ≡ length F + length (framed f.rest) = ap (λ (l : List (List ℕ)). length (framed l)) f.others_are ∙ length-framed s.bodies f.rest in
+      let long : length (frames others) ≡ length F + length (frames f.rest) = ap (λ (l : List (List ℕ)). length (frames l)) f.others_are ∙ length-frames s.bodies f.rest in
       too_far f.rest stands.gate stands.behind stands.shut f.more_is (omega (arith, stands.within, long, s.used, used_within)) f.sizes gate

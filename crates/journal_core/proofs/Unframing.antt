@@ -2,7 +2,7 @@
 use Rattle.std.proofs.Common.{◌≡◌, ◌≢◌, ℕ, ◌+◌, ◌<◌, ◌^◌, List, [], ◌∷◌, ◌++◌, length, take, drop, map, refl, sym, ◌∙◌, ap, subst, arith, append_assoc, length-append}
 use Rattle.std.proofs.lemmas.List.{take_at, drop_at, drop-drop}
 use Rattle.std.specs.Int.{to_be_bytes, w32}
-use Rattle.journal_core.specs.Frames.{frame, framed}
+use Rattle.journal_core.specs.Frames.{frame, frames}
 use Rattle.journal_core.specs.Unframed.{bodies_in, IsFramed}
 
 -- the five bytes before a body
@@ -16,33 +16,33 @@ pub length-frame : (body : List ℕ) → length (frame body) ≡ 5 + length body
 length-frame body = length-append (opening (length body)) body ∙ ap (λ (k : ℕ). k + length body) (length-opening (length body))
 
 -- behind a frame
-pub behind_frame : (body : List ℕ) (bodies : List (List ℕ)) (more : List ℕ) → framed (body ∷ bodies) ++ more ≡ opening (length body) ++ (body ++ (framed bodies ++ more))
+pub behind_frame : (body : List ℕ) (bodies : List (List ℕ)) (more : List ℕ) → frames (body ∷ bodies) ++ more ≡ opening (length body) ++ (body ++ (frames bodies ++ more))
 behind_frame body bodies more =
-    append_assoc (frame body) (framed bodies) more ∙ append_assoc (opening (length body)) body (framed bodies ++ more)
+    append_assoc (frame body) (frames bodies) more ∙ append_assoc (opening (length body)) body (frames bodies ++ more)
 
 pub drop-opening : (n : ℕ) (more : List ℕ) → drop 5 (opening n ++ more) ≡ more
 drop-opening n more = drop_at (opening n) more 5 (length-opening n)
 
-pub bodies_in-framed : (bodies : List (List ℕ)) (more : List ℕ) → bodies_in (map length bodies) (framed bodies ++ more) ≡ bodies
-bodies_in-framed [] more = refl
-bodies_in-framed (body ∷ bodies) more =
-    let whole : framed (body ∷ bodies) ++ more ≡ opening (length body) ++ (body ++ (framed bodies ++ more)) = behind_frame body bodies more in
-    let inner : drop 5 (framed (body ∷ bodies) ++ more) ≡ body ++ (framed bodies ++ more) = ap (λ (l : List ℕ). drop 5 l) whole ∙ drop-opening (length body) (body ++ (framed bodies ++ more)) in
-    let first : take (length body) (drop 5 (framed (body ∷ bodies) ++ more)) ≡ body = ap (λ (l : List ℕ). take (length body) l) inner ∙ take_at body (framed bodies ++ more) (length body) refl in
-    let rest : drop (5 + length body) (framed (body ∷ bodies) ++ more) ≡ framed bodies ++ more =
-    sym (drop-drop (length body) 5 (framed (body ∷ bodies) ++ more)) ∙ ap (λ (l : List ℕ). drop (length body) l) inner ∙ drop_at body (framed bodies ++ more) (length body) refl in
-    ap (λ (l : List ℕ). l ∷ bodies_in (map length bodies) (drop (5 + length body) (framed (body ∷ bodies) ++ more))) first
+pub bodies_in-frames : (bodies : List (List ℕ)) (more : List ℕ) → bodies_in (map length bodies) (frames bodies ++ more) ≡ bodies
+bodies_in-frames [] more = refl
+bodies_in-frames (body ∷ bodies) more =
+    let whole : frames (body ∷ bodies) ++ more ≡ opening (length body) ++ (body ++ (frames bodies ++ more)) = behind_frame body bodies more in
+    let inner : drop 5 (frames (body ∷ bodies) ++ more) ≡ body ++ (frames bodies ++ more) = ap (λ (l : List ℕ). drop 5 l) whole ∙ drop-opening (length body) (body ++ (frames bodies ++ more)) in
+    let first : take (length body) (drop 5 (frames (body ∷ bodies) ++ more)) ≡ body = ap (λ (l : List ℕ). take (length body) l) inner ∙ take_at body (frames bodies ++ more) (length body) refl in
+    let rest : drop (5 + length body) (frames (body ∷ bodies) ++ more) ≡ frames bodies ++ more =
+    sym (drop-drop (length body) 5 (frames (body ∷ bodies) ++ more)) ∙ ap (λ (l : List ℕ). drop (length body) l) inner ∙ drop_at body (frames bodies ++ more) (length body) refl in
+    ap (λ (l : List ℕ). l ∷ bodies_in (map length bodies) (drop (5 + length body) (frames (body ∷ bodies) ++ more))) first
     ∙ ap (λ (l : List ℕ). body ∷ bodies_in (map length bodies) l) rest
-    ∙ ap (λ (l : List (List ℕ)). body ∷ l) (bodies_in-framed bodies more)
+    ∙ ap (λ (l : List (List ℕ)). body ∷ l) (bodies_in-frames bodies more)
 
-pub is_framed : (bodies : List (List ℕ)) → IsFramed (map length bodies) (framed bodies ++ 0 ∷ [])
-is_framed bodies = record { lengths_are = ap (λ (l : List (List ℕ)). map length l) (bodies_in-framed bodies (0 ∷ [])); bytes_are = ap (λ (l : List (List ℕ)). framed l ++ 0 ∷ []) (sym (bodies_in-framed bodies (0 ∷ []))) }
+pub is_framed : (bodies : List (List ℕ)) → IsFramed (map length bodies) (frames bodies ++ 0 ∷ [])
+is_framed bodies = record { lengths_are = ap (λ (l : List (List ℕ)). map length l) (bodies_in-frames bodies (0 ∷ [])); bytes_are = ap (λ (l : List (List ℕ)). frames l ++ 0 ∷ []) (sym (bodies_in-frames bodies (0 ∷ []))) }
 
 -- bodies and their lengths, one by one, and a closed gate at the end
-pub closed : (bodies : List (List ℕ)) (lengths bytes whole : List ℕ) → lengths ≡ map length bodies → bytes ≡ framed bodies → whole ≡ bytes ++ 0 ∷ [] → IsFramed lengths whole
+pub closed : (bodies : List (List ℕ)) (lengths bytes whole : List ℕ) → lengths ≡ map length bodies → bytes ≡ frames bodies → whole ≡ bytes ++ 0 ∷ [] → IsFramed lengths whole
 closed bodies lengths bytes whole lengths_are bytes_are whole_is = subst (λ (l : List ℕ). IsFramed l whole) (sym lengths_are)
     (subst (λ (l : List ℕ). IsFramed (map length bodies) l) (sym (whole_is ∙ ap (λ (l : List ℕ). l ++ 0 ∷ []) bytes_are)) (is_framed bodies))
 
-pub bodies_come_back : (bodies : List (List ℕ)) (lengths bytes whole : List ℕ) → lengths ≡ map length bodies → bytes ≡ framed bodies → whole ≡ bytes ++ 0 ∷ [] → bodies_in lengths whole ≡ bodies
+pub bodies_come_back : (bodies : List (List ℕ)) (lengths bytes whole : List ℕ) → lengths ≡ map length bodies → bytes ≡ frames bodies → whole ≡ bytes ++ 0 ∷ [] → bodies_in lengths whole ≡ bodies
 bodies_come_back bodies lengths bytes whole lengths_are bytes_are whole_is =
-    ap (λ (l : List ℕ). bodies_in l whole) lengths_are ∙ ap (λ (l : List ℕ). bodies_in (map length bodies) l) (whole_is ∙ ap (λ (l : List ℕ). l ++ 0 ∷ []) bytes_are) ∙ bodies_in-framed bodies (0 ∷ [])
+    ap (λ (l : List ℕ). bodies_in l whole) lengths_are ∙ ap (λ (l : List ℕ). bodies_in (map length bodies) l) (whole_is ∙ ap (λ (l : List ℕ). l ++ 0 ∷ []) bytes_are) ∙ bodies_in-frames bodies (0 ∷ [])

@@ -8,8 +8,8 @@ abbrev pub frame : List ℕ → List ℕ
 frame body = (0xa5 ∷ to_be_bytes w32 (length body)) ++ body
 
 -- bodies, one behind the other
-abbrev pub framed : List (List ℕ) → List ℕ
-framed = flat_map frame
+abbrev pub frames : List (List ℕ) → List ℕ
+frames = flat_map frame
 
 -- a body whose length has four bytes
 abbrev pub IsBody : List ℕ → Type 0

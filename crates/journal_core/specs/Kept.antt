@@ -2,7 +2,7 @@
 use Rattle.std.specs.Prelude.{◌≡◌, ℕ, ◌+◌, ◌≤◌, Bool, List, length}
 use Rattle.journal_core.specs.declared.region.Region.{Region}
 use Rattle.journal_core.specs.declared.place.Place.{Place}
-use Rattle.journal_core.specs.Frames.{framed}
+use Rattle.journal_core.specs.Frames.{frames}
 use Rattle.journal_core.specs.Region.{region_size, half_at, selected, RegionStands}
 use Rattle.journal_core.specs.Place.{places_from}
 
@@ -24,7 +24,7 @@ pub record Fits (journal : Kept) (image : List ℕ) (bodies : List (List ℕ)) :
   pub selector : selected journal.region image ≡ journal.second
   pub stands : RegionStands journal.region image bodies
   pub places : journal.places ≡ places_from (half_at journal.region journal.second) bodies
-  pub used : journal.used ≡ length (framed bodies)
+  pub used : journal.used ≡ length (frames bodies)
 
 -- the same but for the room
 pub record SameBut (old new : Kept) : Type 0 where

@@ -4,7 +4,7 @@ use Rattle.std.specs.Int.{from_be_bytes, w32}
 use Rattle.board_core.specs.Contents.{Contents}
 use Rattle.board_core.specs.Moments.{SameOutside}
 use Rattle.journal_core.specs.declared.region.Region.{Region}
-use Rattle.journal_core.specs.Frames.{framed, AreBodies}
+use Rattle.journal_core.specs.Frames.{frames, AreBodies}
 
 -- 16 bytes, of which the first is the selector, and two halves
 abbrev pub region_size : Region → ℕ
@@ -29,10 +29,10 @@ pub record HalfStands (at half : ℕ) (image : List ℕ) (bodies : List (List �
   pub before : List ℕ
   pub gate : ℕ
   pub behind : List ℕ
-  pub whole : image ≡ before ++ (framed bodies ++ gate ∷ behind)
+  pub whole : image ≡ before ++ (frames bodies ++ gate ∷ behind)
   pub place : length before ≡ at
   pub shut : gate ≢ 0xa5
-  pub within : length (framed bodies) + 1 ≤ half
+  pub within : length (frames bodies) + 1 ≤ half
   pub sizes : AreBodies bodies
 
 -- the half that counts stands for the bodies
@@ -45,11 +45,11 @@ pub record HalfOverruns (at half : ℕ) (image : List ℕ) : Type 0 where
   pub bodies : List (List ℕ)
   pub before : List ℕ
   pub behind : List ℕ
-  pub whole : image ≡ before ++ (framed bodies ++ behind)
+  pub whole : image ≡ before ++ (frames bodies ++ behind)
   pub place : length before ≡ at
   pub sizes : AreBodies bodies
-  pub past : (half < length (framed bodies) + 1)
-      ⊎ ((slice_index behind 0 ≡ 0xa5) × ((half < length (framed bodies) + 6) ⊎ (half < length (framed bodies) + 6 + from_be_bytes w32 (take 4 (drop 1 behind)))))
+  pub past : (half < length (frames bodies) + 1)
+      ⊎ ((slice_index behind 0 ≡ 0xa5) × ((half < length (frames bodies) + 6) ⊎ (half < length (frames bodies) + 6 + from_be_bytes w32 (take 4 (drop 1 behind)))))
 
 abbrev pub RegionOverruns : Region → List ℕ → Type 0
 RegionOverruns region image = HalfOverruns (half_at region (selected region image)) region.half image

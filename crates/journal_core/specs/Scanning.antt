@@ -5,7 +5,7 @@ use Rattle.journal_core.specs.declared.fault.JournalFault.{JournalFault}
 use Rattle.journal_core.specs.declared.fault.JournalFault.TheVariants as mount
 use Rattle.journal_core.specs.declared.mount.Gate.{Gate}
 use Rattle.journal_core.specs.declared.mount.Gate.TheVariants as gates
-use Rattle.journal_core.specs.Frames.{framed}
+use Rattle.journal_core.specs.Frames.{frames}
 use Rattle.journal_core.specs.Region.{half_at, HalfStands}
 use Rattle.journal_core.specs.Place.{places_from}
 use Rattle.journal_core.specs.Kept.{Kept}
@@ -45,7 +45,7 @@ pub record TakesIn (length : ℕ) (old new : Kept) : Type 0 where
 -- the half of the journal that began stands for bodies, whose places are kept; or for none
 abbrev pub Scans : Kept → List ℕ → Result Kept JournalFault → Type 0
 Scans start image (Ok journal) = IsOf start journal × ((bodies : List (List ℕ)) × HalfStands (half_at journal.region journal.second) journal.region.half image bodies
-    × (journal.places ≡ places_from (half_at journal.region journal.second) bodies) × (journal.used ≡ length (framed bodies)))
+    × (journal.places ≡ places_from (half_at journal.region journal.second) bodies) × (journal.used ≡ length (frames bodies)))
 Scans start image (Err mount.NoJournal) = (bodies : List (List ℕ)) → HalfStands (half_at start.region start.second) start.region.half image bodies → ⊥
 Scans start image (Err mount.DiskFault) = Unit {0}
 Scans start image (Err mount.NoMemory) = Unit {0}

@@ -1,5 +1,5 @@
 ghost use Rattle.std.specs.Prelude.{◌≡◌, ◌+◌, ◌++◌, ◌∷◌, [], ◌<◌, ◌^◌, length, IfOk, OnOk};
-ghost use Rattle.journal_core.specs.Frames.{frame, framed, AreBodies};
+ghost use Rattle.journal_core.specs.Frames.{frame, AreBodies};
 
 use base_types::{List, Octets, OrMemory};
 use std::alloc::Global;
@@ -23,7 +23,7 @@ pub struct Framed {
 
 impl Model for Framed {
     ghost use Rattle.std.specs.Prelude.{◌≡◌, ◌++◌, ◌∷◌, [], List, ℕ, length, map};
-    ghost use Rattle.journal_core.specs.Frames.{framed};
+    ghost use Rattle.journal_core.specs.Frames.{frames};
     ghost use Rattle.journal_core.specs.Unframed.{bodies_in, IsFramed};
 
     ghost Value = { List (List ℕ) };
