@@ -27,7 +27,7 @@ pub record SameFront (body other : List ℕ) (more behind : List ℕ) : Type 0 w
 same_front : (body other more behind : List ℕ) → IsBody body → IsBody other → opening (length body) ++ (body ++ more) ≡ opening (length other) ++ (other ++ behind) → SameFront body other more behind
 same_front body other more behind fits other_fits same =
     let openings : opening (length body) ≡ opening (length other) =
-        sym (take_at (opening (length body)) (body ++ more) 5 (length-opening (length body))) ∙ ap (λ (l : List ℕ). take 5 l) same ∙ take_at (opening (length other)) (other ++ behind) 5 (length-opening (length other)) in
+    sym (take_at (opening (length body)) (body ++ more) 5 (length-opening (length body))) ∙ ap (λ (l : List ℕ). take 5 l) same ∙ take_at (opening (length other)) (other ++ behind) 5 (length-opening (length other)) in
     let lengths : length body ≡ length other = opening_one (length body) (length other) fits other_fits openings in
     let inner : body ++ more ≡ other ++ behind = sym (drop-opening (length body) (body ++ more)) ∙ ap (λ (l : List ℕ). drop 5 l) same ∙ drop-opening (length other) (other ++ behind) in
     record {
@@ -43,7 +43,7 @@ goes_on (body ∷ bodies) [] more gate behind sizes other_sizes shut same =
     absurd (shut (sym first))
 goes_on (body ∷ bodies) (other ∷ others) more gate behind sizes other_sizes shut same =
     let front = same_front body other (frames bodies ++ more) (frames others ++ gate ∷ behind) sizes.0 other_sizes.0
-        (sym (behind_frame body bodies more) ∙ same ∙ behind_frame other others (gate ∷ behind)) in
+    (sym (behind_frame body bodies more) ∙ same ∙ behind_frame other others (gate ∷ behind)) in
     let inner = goes_on bodies others more gate behind sizes.1 other_sizes.1 shut front.rest_is in
     record {
       rest = inner.rest;

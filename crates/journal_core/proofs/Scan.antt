@@ -36,7 +36,9 @@ same_still now = record { silent = record { taken = refl; rest = refl; sent = re
 pub same_both : {a b c : Contents} → Same a b → Same b c → Same a c
 same_both first second = record {
   silent = record { taken = second.silent.taken ∙ first.silent.taken; rest = second.silent.rest ∙ first.silent.rest; sent = second.silent.sent ∙ first.silent.sent };
-  stored = second.stored ∙ first.stored; bytes = second.bytes ∙ first.bytes; clean = second.clean ∙ first.clean;
+  stored = second.stored ∙ first.stored;
+  bytes = second.bytes ∙ first.bytes;
+  clean = second.clean ∙ first.clean;
 }
 
 -- a call on the disk, whatever it answers, leaves the other counts
@@ -102,13 +104,18 @@ module _ (told : Type 0) (start : Kept) (f0 : Faults) (e0 : ℕ) (old : Contents
 mounted_here : (region : Region) (image : List ℕ) (start : Kept) (result : Result Kept JournalFault) → start.region ≡ region → start.second ≡ selected region image → Scans start image result → Mounts region image result
 mounted_here region image start (Ok journal) region_is second_is s =
     let here : journal.region ≡ region = s.0.region ∙ region_is in
-    let selector : selected journal.region image ≡ journal.second = ap (λ (r : Region). selected r image) here ∙ sym second_is ∙ sym s.0.second in
-    (here, (s.1.0, record {
-      selector = selector;
-      stands = subst (λ (b : Bool). HalfStands (half_at journal.region b) journal.region.half image s.1.0) (sym selector) s.1.1;
-      places = s.1.2;
-      used = s.1.3;
-    }))
+    let selector : selected journal.region image ≡ journal.second = ap (λ (r : Region). selected r image) here ∙ sym second_is ∙ sym s.0.second in (
+      here,
+      (
+        s.1.0,
+        record {
+          selector = selector;
+          stands = subst (λ (b : Bool). HalfStands (half_at journal.region b) journal.region.half image s.1.0) (sym selector) s.1.1;
+          places = s.1.2;
+          used = s.1.3;
+        },
+      ),
+    )
 mounted_here region image start (Err mount.NoJournal) region_is second_is s = λ bodies stands. s bodies
     (subst (λ (r : Region). HalfStands (half_at r start.second) r.half image bodies) (sym region_is) (subst (λ (b : Bool). HalfStands (half_at region b) region.half image bodies) (sym second_is) stands))
 mounted_here region image start (Err mount.DiskFault) region_is second_is s = tt

@@ -1,11 +1,12 @@
 -- A half is looked through from its first gate on.
-use Rattle.std.proofs.Common.{◌≡◌, ◌≢◌, ℕ, zero, suc, ◌+◌, ◌-◌, ◌<◌, ◌≤◌, ◌^◌, ◌⊎◌, inl, inr, List, [], ◌∷◌, ◌++◌, length, take, drop, get_or, refl, sym, ◌∙◌, ap, subst, arith, append_assoc, length-append, take-append-drop}
+use Rattle.std.proofs.Common.{◌≡◌, ◌≢◌, ℕ, zero, suc, ◌+◌, ◌-◌, ◌<◌, ◌≤◌, ◌^◌, ◌⊎◌, inl, inr, Bool, List, [], ◌∷◌, ◌++◌, length, take, drop, get_or, refl, sym, ◌∙◌, ap, subst, arith, append_assoc, length-append, take-append-drop}
 use Rattle.std.proofs.lemmas.List.{take_at, drop_at, flat_map_more, length-take-le, length-drop}
 use Rattle.std.proofs.lemmas.Grind.{flat_map-append}
 use Rattle.std.specs.Int.{from_be_bytes, to_be_bytes, w32}
 use Rattle.std.specs.List.{AllByRecursion}
 use Rattle.std.proofs.lemmas.Nat.{from_be_bytes-to_be_bytes_4}
 use Rattle.journal_core.specs.declared.place.Place.{Place}
+use Rattle.journal_core.specs.declared.region.Region.{Region}
 use Rattle.journal_core.specs.declared.mount.Gate.TheVariants as gates
 use Rattle.journal_core.specs.Frames.{frame, frames, IsBody, AreBodies}
 use Rattle.journal_core.specs.Place.{places_from}
@@ -42,7 +43,7 @@ started journal image empty within = record {
   used = empty.used;
 }
 
-sizes-more : (bodies : List (List ℕ)) (body : List ℕ) → AreBodies bodies → IsBody body → AreBodies (bodies ++ body ∷ [])
+pub sizes-more : (bodies : List (List ℕ)) (body : List ℕ) → AreBodies bodies → IsBody body → AreBodies (bodies ++ body ∷ [])
 sizes-more [] body sizes size = (size, tt)
 sizes-more (b ∷ bodies) body sizes size = (sizes.0, sizes-more bodies body sizes.1 size)
 
@@ -59,6 +60,24 @@ places-more at (b ∷ bodies) body =
     let k : at + 5 + length b + length (frames bodies) + 5 ≡ at + length (frames (b ∷ bodies)) + 5 = omega (arith, length-append (frame b) (frames bodies), length-frame b) in
     ap (λ (l : List Place). record { at = at + 5; length = length b } ∷ l) (places-more (at + 5 + length b) bodies body)
     ∙ ap (λ (k : ℕ). record { at = at + 5; length = length b } ∷ (places_from (at + 5 + length b) bodies ++ record { at = k; length = length body } ∷ [])) k
+
+-- what is kept of the first bodies, and of one more
+pub record Keeps (journal : Kept) (bodies : List (List ℕ)) : Type 0 where
+  pub places : journal.places ≡ places_from (begins journal) bodies
+  pub used : journal.used ≡ length (frames bodies)
+
+pub begins_same : {old new : Kept} → IsOf old new → begins new ≡ begins old
+begins_same {old} {new} is_of = ap (λ (r : Region). half_at r new.second) is_of.region ∙ ap (λ (b : Bool). half_at old.region b) is_of.second
+
+pub keeps_more : (journal new : Kept) (bodies : List (List ℕ)) (body : List ℕ) (n : ℕ) → Keeps journal bodies → length body ≡ n → TakesIn n journal new → Keeps new (bodies ++ body ∷ [])
+keeps_more journal new bodies body n keeps long takes = record {
+  places = takes.places ∙ ap (λ (l : List Place). l ++ record { at = begins journal + journal.used + 5; length = n } ∷ []) keeps.places
+      ∙ ap (λ (k : ℕ). places_from (begins journal) bodies ++ record { at = begins journal + k + 5; length = n } ∷ []) keeps.used
+      ∙ ap (λ (k : ℕ). places_from (begins journal) bodies ++ record { at = begins journal + length (frames bodies) + 5; length = k } ∷ []) (sym long)
+      ∙ sym (places-more (begins journal) bodies body) ∙ ap (λ (k : ℕ). places_from k (bodies ++ body ∷ [])) (sym (begins_same takes.is_of));
+  used = takes.used ∙ (let k : journal.used + 5 + n ≡ length (frames bodies) + length (frame body) = omega (arith, keeps.used, length-frame body, long) in k)
+      ∙ sym (length-append (frames bodies) (frame body)) ∙ ap (λ (l : List ℕ). length l) (frames-more bodies body);
+}
 
 module _ (journal : Kept) (image : List ℕ) (s : Scanned journal image) where
   abbrev F : List ℕ
@@ -85,22 +104,18 @@ module _ (journal : Kept) (image : List ℕ) (s : Scanned journal image) where
         let long : length body ≡ n = length-take-le n (drop 5 s.more) enough in
         let opens : take 5 s.more ≡ opening n = ap (λ (l : List ℕ). take 5 l) (sym behind_is) ∙ gate.0 in
         let more_is : s.more ≡ frame body ++ rest = sym (take-append-drop 5 s.more) ∙ ap (λ (l : List ℕ). l ++ drop 5 s.more) (opens ∙ ap (λ (k : ℕ). opening k) (sym long))
-            ∙ ap (λ (l : List ℕ). opening (length body) ++ l) (sym (take-append-drop n (drop 5 s.more))) ∙ sym (append_assoc (opening (length body)) body rest) in
-        let begins_same : begins new ≡ begins journal = ap (λ (r : _). half_at r new.second) takes.is_of.region ∙ ap (λ (b : _). half_at journal.region b) takes.is_of.second in
+        ∙ ap (λ (l : List ℕ). opening (length body) ++ l) (sym (take-append-drop n (drop 5 s.more))) ∙ sym (append_assoc (opening (length body)) body rest) in
+        let keeps = keeps_more journal new s.bodies body n (record { places = s.places; used = s.used }) long takes in
         record {
           bodies = s.bodies ++ body ∷ [];
           before = s.before;
           more = rest;
           whole = s.whole ∙ ap (λ (l : List ℕ). s.before ++ (F ++ l)) more_is ∙ ap (λ (l : List ℕ). s.before ++ l) (sym (append_assoc F (frame body) rest))
               ∙ ap (λ (l : List ℕ). s.before ++ (l ++ rest)) (frames-more s.bodies body);
-          place = s.place ∙ sym begins_same;
+          place = s.place ∙ sym (begins_same takes.is_of);
           sizes = sizes-more s.bodies body s.sizes (let fits : length body < 2 ^ 32 = subst (λ (k : ℕ). k < 2 ^ 32) (sym long) gate.1 in fits);
-          places = takes.places ∙ ap (λ (l : List Place). l ++ record { at = begins journal + journal.used + 5; length = n } ∷ []) s.places
-              ∙ ap (λ (k : ℕ). places_from (begins journal) s.bodies ++ record { at = begins journal + k + 5; length = n } ∷ []) s.used
-              ∙ ap (λ (k : ℕ). places_from (begins journal) s.bodies ++ record { at = begins journal + length F + 5; length = k } ∷ []) (sym long)
-              ∙ sym (places-more (begins journal) s.bodies body) ∙ ap (λ (k : ℕ). places_from k (s.bodies ++ body ∷ [])) (sym begins_same);
-          used = takes.used ∙ (let k : journal.used + 5 + n ≡ length F + length (frame body) = omega (arith, s.used, length-frame body, long) in k)
-              ∙ sym (length-append F (frame body)) ∙ ap (λ (l : List ℕ). length l) (frames-more s.bodies body);
+          places = keeps.places;
+          used = keeps.used;
         }
 
     more_cons : 0 < journal.region.half - journal.used → s.more ≡ get_or s.more 0 0 ∷ drop 1 s.more
@@ -125,7 +140,7 @@ module _ (journal : Kept) (image : List ℕ) (s : Scanned journal image) where
   follows : (others : List (List ℕ)) (stands : HalfStands (begins journal) journal.region.half image others) → GoesOn s.bodies others s.more stands.gate stands.behind
   follows others stands = goes_on s.bodies others s.more stands.gate stands.behind s.sizes stands.sizes stands.shut
       (sym (drop_at s.before (F ++ s.more) (begins journal) s.place) ∙ ap (λ (l : List ℕ). drop (begins journal) l) (sym s.whole ∙ stands.whole)
-        ∙ drop_at stands.before (frames others ++ stands.gate ∷ stands.behind) (begins journal) stands.place)
+      ∙ drop_at stands.before (frames others ++ stands.gate ∷ stands.behind) (begins journal) stands.place)
 
   -- one byte of gate and a frame do not fit
   too_far : (rest : List (List ℕ)) (gate : ℕ) (behind_gate : List ℕ) → gate ≢ 0xa5 → s.more ≡ frames rest ++ gate ∷ behind_gate → length (frames rest) + 1 ≤ journal.region.half - journal.used
@@ -135,8 +150,8 @@ module _ (journal : Kept) (image : List ℕ) (s : Scanned journal image) where
   too_far (d ∷ ds) gate behind_gate shut is room sizes (inr x) =
       let more_is : s.more ≡ opening (length d) ++ (d ++ (frames ds ++ gate ∷ behind_gate)) = is ∙ behind_frame d ds (gate ∷ behind_gate) in
       let number : from_be_bytes w32 (take 4 (drop 1 (behind journal image))) ≡ length d =
-          ap (λ (l : List ℕ). from_be_bytes w32 (take 4 (drop 1 l))) (behind_is ∙ more_is)
-          ∙ ap (λ (l : List ℕ). from_be_bytes w32 l) (take_at (to_be_bytes w32 (length d)) (d ++ (frames ds ++ gate ∷ behind_gate)) 4 refl) ∙ from_be_bytes-to_be_bytes_4 (length d) sizes.0 in
+      ap (λ (l : List ℕ). from_be_bytes w32 (take 4 (drop 1 l))) (behind_is ∙ more_is)
+      ∙ ap (λ (l : List ℕ). from_be_bytes w32 l) (take_at (to_be_bytes w32 (length d)) (d ++ (frames ds ++ gate ∷ behind_gate)) 4 refl) ∙ from_be_bytes-to_be_bytes_4 (length d) sizes.0 in
       let long : 6 + length d ≤ journal.region.half - journal.used = omega (arith, room, length-append (frame d) (frames ds), length-frame d) in
       elim x.1 [ inl short ↦ omega (arith, short, long) | inr short ↦ omega (arith, short, long, number) ]
 

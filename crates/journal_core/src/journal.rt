@@ -2,6 +2,7 @@ ghost use Rattle.std.specs.Prelude.{◌≡◌, ◌+◌, ◌<◌, ◌≤◌, ℕ,
 ghost use Rattle.journal_core.specs.declared.place.Place.{Place};
 ghost use Rattle.journal_core.specs.Region.{half_at};
 ghost use Rattle.journal_core.specs.Kept.{Kept, SameBut};
+ghost use Rattle.journal_core.specs.Scanning.{IsEmpty, TakesIn};
 
 use crate::place::Place;
 use crate::region::Region;
@@ -74,5 +75,44 @@ impl Journal {
     {
         self.places.reserve(more as usize)?;
         Ok(())
+    }
+
+    // One body more, whose frame and a gate behind it lie within the half.
+    pub(crate) fn take_in(&mut self, length: u32) -> OrMemory<()>
+        requires { self.old.used + 6 + length ≤ self.old.region.half }
+        ensures { OnOk result (TakesIn length self.old self.new) }
+    {
+        self.places.reserve(1)?;
+        self.take_in_reserved(length);
+        Ok(())
+    }
+
+    // The same where a place is reserved for it.
+    pub(crate) fn take_in_reserved(&mut self, length: u32)
+        requires fits { self.old.used + 6 + length ≤ self.old.region.half }
+        requires room { 0 < self.old.spare }
+        ensures taken { TakesIn length self.old self.new }
+        ensures spare { self.old.spare ≤ self.new.spare + 1 }
+    {
+        let place = Place {
+            at: self.half_at() + self.used + 5,
+            length: u64::from(length),
+        };
+        let Ok(()) = self.places.push(place) else {
+            unreachable!()
+        };
+        self.used += 5 + u64::from(length);
+    }
+
+    // No body yet, and this half counts. The places' room stays.
+    pub(crate) fn begin_half(&mut self, second: bool)
+        ensures empty { IsEmpty self.new }
+        ensures region { self.new.region ≡ self.old.region }
+        ensures second { self.new.second ≡ second }
+        ensures room { self.old.spare + length self.old.places ≤ self.new.spare }
+    {
+        self.places.clear();
+        self.second = second;
+        self.used = 0;
     }
 }

@@ -109,20 +109,6 @@ impl Journal {
         board.load(at, &mut opening)?;
         Ok(gate_of(opening, room))
     }
-
-    // One body more, whose frame and a gate behind it lie within the half.
-    fn take_in(&mut self, length: u32) -> OrMemory<()>
-        requires { self.old.used + 6 + length ≤ self.old.region.half }
-        ensures { OnOk result (TakesIn length self.old self.new) }
-    {
-        let place = Place {
-            at: self.half_at() + self.used + 5,
-            length: u64::from(length),
-        };
-        self.places.push(place)?;
-        self.used += 5 + u64::from(length);
-        Ok(())
-    }
 }
 
 // What five bytes at a gate say, where so many bytes of the half are left, the gate's included.
