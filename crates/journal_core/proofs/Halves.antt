@@ -36,18 +36,28 @@ module _ (begins half : ℕ) (image : List ℕ) (bodies : List (List ℕ)) (s : 
   -- all up to the end gate is as it was
   same_front : (new : List ℕ) → take end new ≡ take end image → HalfStands begins half new bodies
   same_front new same = record {
-    before = s.before; gate = s.gate; behind = drop end new;
+    before = s.before;
+    gate = s.gate;
+    behind = drop end new;
     whole = sym (take-append-drop end new) ∙ ap (λ (l : List ℕ). l ++ drop end new) (same ∙ take-front) ∙ regrouped s.gate (drop end new);
-    place = s.place; shut = s.shut; within = s.within; sizes = s.sizes;
+    place = s.place;
+    shut = s.shut;
+    within = s.within;
+    sizes = s.sizes;
   }
 
   -- all from the half on is as it was
   same_behind : (new : List ℕ) → length new ≡ length image → drop begins new ≡ drop begins image → HalfStands begins half new bodies
   same_behind new long same = record {
-    before = take begins new; gate = s.gate; behind = s.behind;
+    before = take begins new;
+    gate = s.gate;
+    behind = s.behind;
     whole = sym (take-append-drop begins new) ∙ ap (λ (l : List ℕ). take begins new ++ l)
         (same ∙ ap (λ (l : List ℕ). drop begins l) s.whole ∙ drop_at s.before (F ++ s.gate ∷ s.behind) begins s.place);
-    place = length-take-le begins new (omega (arith, long, begins_within)); shut = s.shut; within = s.within; sizes = s.sizes;
+    place = length-take-le begins new (omega (arith, long, begins_within));
+    shut = s.shut;
+    within = s.within;
+    sizes = s.sizes;
   }
 
   -- a change elsewhere
@@ -55,7 +65,7 @@ module _ (begins half : ℕ) (image : List ℕ) (bodies : List (List ℕ)) (s : 
   stands_elsewhere p n new same (inl low) = same_front new ((outside_wider end (p + n - end) p n image new low (omega (arith, low)) same).before)
   stands_elsewhere p n new same (inr high) = same_behind new same.length_kept
       (let wider = outside_wider 0 begins p n image new (omega arith) (omega (arith, high)) same in
-       let k : 0 + begins ≡ begins = omega arith in subst (λ (k : ℕ). drop k new ≡ drop k image) k wider.behind)
+      let k : 0 + begins ≡ begins = omega arith in subst (λ (k : ℕ). drop k new ≡ drop k image) k wider.behind)
 
   -- a body with its frame, whose gate is the last to be put
   module _ (body tail : List ℕ) (tail_is : 0xa5 ∷ tail ≡ frame body ++ 0 ∷ []) (size : IsBody body) (fits : length F + (length tail + 1) ≤ half) (inside : begins + half ≤ length image) where
@@ -100,15 +110,22 @@ module _ (begins half : ℕ) (image : List ℕ) (bodies : List (List ℕ)) (s : 
       -- the gate is not open
       pub gate_shut : x ≢ 0xa5 → HalfStands begins half new bodies
       gate_shut shut = record {
-        before = s.before; gate = x; behind = tail ++ rest;
+        before = s.before;
+        gate = x;
+        behind = tail ++ rest;
         whole = gated_whole ∙ append_assoc s.before F (x ∷ (tail ++ rest));
-        place = s.place; shut = shut; within = s.within; sizes = s.sizes;
+        place = s.place;
+        shut = shut;
+        within = s.within;
+        sizes = s.sizes;
       }
 
       -- the gate is open
       pub gate_open : x ≡ 0xa5 → HalfStands begins half new (bodies ++ body ∷ [])
       gate_open open_ = record {
-        before = s.before; gate = 0; behind = rest;
+        before = s.before;
+        gate = 0;
+        behind = rest;
         whole = gated_whole ∙ ap (λ (y : ℕ). (s.before ++ F) ++ y ∷ (tail ++ rest)) open_
             ∙ append_assoc s.before F ((0xa5 ∷ tail) ++ rest)
             ∙ ap (λ (l : List ℕ). s.before ++ (F ++ (l ++ rest))) tail_is
@@ -130,7 +147,9 @@ pub written_stands : (p half : ℕ) (image : List ℕ) (bodies : List (List ℕ)
 written_stands p half image bodies bytes bytes_are sizes fits inside =
     let rest : List ℕ = drop (p + length bytes) image in
     record {
-      before = take p image; gate = 0; behind = rest;
+      before = take p image;
+      gate = 0;
+      behind = rest;
       whole = append_assoc (take p image) bytes rest ∙ ap (λ (l : List ℕ). take p image ++ (l ++ rest)) bytes_are ∙ ap (λ (l : List ℕ). take p image ++ l) (append_assoc (frames bodies) (0 ∷ []) rest);
       place = length-take-le p image (omega (arith, inside));
       shut = λ e. cc;

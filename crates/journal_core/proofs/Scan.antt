@@ -10,8 +10,8 @@ use Rattle.journal_core.specs.declared.mount.Gate.TheVariants as gates
 use Rattle.journal_core.specs.declared.fault.JournalFault.{JournalFault}
 use Rattle.journal_core.specs.declared.fault.JournalFault.TheVariants as mount
 use Rattle.journal_core.specs.Region.{region_size, half_at, selected, HalfStands}
-use Rattle.journal_core.specs.Kept.{Kept, IsWithin}
-use Rattle.journal_core.specs.Scanning.{IsEmpty, IsOf, GateIs, behind, TakesIn, Scans}
+use Rattle.journal_core.specs.Kept.{Kept, IsWithin, IsOf, Keeps}
+use Rattle.journal_core.specs.Scanning.{IsEmpty, GateIs, behind, TakesIn, Scans}
 use Rattle.journal_core.specs.Outcome.{DiskAlone, Mounts}
 use Rattle.journal_core.proofs.Scanned.{Scanned, begins, started, taken, closed, overrun}
 
@@ -111,8 +111,7 @@ mounted_here region image start (Ok journal) region_is second_is s =
         record {
           selector = selector;
           stands = subst (λ (b : Bool). HalfStands (half_at journal.region b) journal.region.half image s.1.0) (sym selector) s.1.1;
-          places = s.1.2;
-          used = s.1.3;
+          keeps = s.1.2;
         },
       ),
     )

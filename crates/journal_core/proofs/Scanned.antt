@@ -11,8 +11,8 @@ use Rattle.journal_core.specs.declared.mount.Gate.TheVariants as gates
 use Rattle.journal_core.specs.Frames.{frame, frames, IsBody, AreBodies}
 use Rattle.journal_core.specs.Place.{places_from}
 use Rattle.journal_core.specs.Region.{half_at, HalfStands}
-use Rattle.journal_core.specs.Kept.{Kept}
-use Rattle.journal_core.specs.Scanning.{IsEmpty, IsOf, GateIs, behind, TakesIn}
+use Rattle.journal_core.specs.Kept.{Kept, IsOf, Keeps}
+use Rattle.journal_core.specs.Scanning.{IsEmpty, GateIs, behind, TakesIn}
 use Rattle.journal_core.proofs.Unframing.{opening, length-opening, length-frame, behind_frame, drop-opening}
 use Rattle.journal_core.proofs.Prefixes.{GoesOn, goes_on}
 
@@ -28,8 +28,7 @@ pub record Scanned (journal : Kept) (image : List ℕ) : Type 0 where
   pub whole : image ≡ before ++ (frames bodies ++ more)
   pub place : length before ≡ begins journal
   pub sizes : AreBodies bodies
-  pub places : journal.places ≡ places_from (begins journal) bodies
-  pub used : journal.used ≡ length (frames bodies)
+  pub keeps : Keeps journal bodies
 
 pub started : (journal : Kept) (image : List ℕ) → IsEmpty journal → begins journal ≤ length image → Scanned journal image
 started journal image empty within = record {
@@ -39,8 +38,7 @@ started journal image empty within = record {
   whole = sym (take-append-drop (begins journal) image);
   place = length-take-le (begins journal) image within;
   sizes = tt;
-  places = empty.places;
-  used = empty.used;
+  keeps = record { places = empty.places; used = empty.used };
 }
 
 pub sizes-more : (bodies : List (List ℕ)) (body : List ℕ) → AreBodies bodies → IsBody body → AreBodies (bodies ++ body ∷ [])
@@ -61,11 +59,6 @@ places-more at (b ∷ bodies) body =
     ap (λ (l : List Place). record { at = at + 5; length = length b } ∷ l) (places-more (at + 5 + length b) bodies body)
     ∙ ap (λ (k : ℕ). record { at = at + 5; length = length b } ∷ (places_from (at + 5 + length b) bodies ++ record { at = k; length = length body } ∷ [])) k
 
--- what is kept of the first bodies, and of one more
-pub record Keeps (journal : Kept) (bodies : List (List ℕ)) : Type 0 where
-  pub places : journal.places ≡ places_from (begins journal) bodies
-  pub used : journal.used ≡ length (frames bodies)
-
 pub begins_same : {old new : Kept} → IsOf old new → begins new ≡ begins old
 begins_same {old} {new} is_of = ap (λ (r : Region). half_at r new.second) is_of.region ∙ ap (λ (b : Bool). half_at old.region b) is_of.second
 
@@ -84,7 +77,7 @@ module _ (journal : Kept) (image : List ℕ) (s : Scanned journal image) where
   F = frames s.bodies
 
   front_long : length (s.before ++ F) ≡ begins journal + journal.used
-  front_long = omega (arith, length-append s.before F, s.place, s.used)
+  front_long = omega (arith, length-append s.before F, s.place, s.keeps.used)
 
   pub behind_is : behind journal image ≡ s.more
   behind_is = ap (λ (l : List ℕ). drop (begins journal + journal.used) l) (s.whole ∙ sym (append_assoc s.before F s.more)) ∙ drop_at (s.before ++ F) s.more (begins journal + journal.used) front_long
@@ -105,7 +98,7 @@ module _ (journal : Kept) (image : List ℕ) (s : Scanned journal image) where
         let opens : take 5 s.more ≡ opening n = ap (λ (l : List ℕ). take 5 l) (sym behind_is) ∙ gate.0 in
         let more_is : s.more ≡ frame body ++ rest = sym (take-append-drop 5 s.more) ∙ ap (λ (l : List ℕ). l ++ drop 5 s.more) (opens ∙ ap (λ (k : ℕ). opening k) (sym long))
         ∙ ap (λ (l : List ℕ). opening (length body) ++ l) (sym (take-append-drop n (drop 5 s.more))) ∙ sym (append_assoc (opening (length body)) body rest) in
-        let keeps = keeps_more journal new s.bodies body n (record { places = s.places; used = s.used }) long takes in
+        let keeps = keeps_more journal new s.bodies body n s.keeps long takes in
         record {
           bodies = s.bodies ++ body ∷ [];
           before = s.before;
@@ -114,8 +107,7 @@ module _ (journal : Kept) (image : List ℕ) (s : Scanned journal image) where
               ∙ ap (λ (l : List ℕ). s.before ++ (l ++ rest)) (frames-more s.bodies body);
           place = s.place ∙ sym (begins_same takes.is_of);
           sizes = sizes-more s.bodies body s.sizes (let fits : length body < 2 ^ 32 = subst (λ (k : ℕ). k < 2 ^ 32) (sym long) gate.1 in fits);
-          places = keeps.places;
-          used = keeps.used;
+          keeps = keeps;
         }
 
     more_cons : 0 < journal.region.half - journal.used → s.more ≡ get_or s.more 0 0 ∷ drop 1 s.more
@@ -132,7 +124,7 @@ module _ (journal : Kept) (image : List ℕ) (s : Scanned journal image) where
       whole = s.whole ∙ ap (λ (l : List ℕ). s.before ++ (F ++ l)) (more_cons gate.0);
       place = s.place;
       shut = λ e. gate.1 (ap (λ (l : List ℕ). get_or l 0 0) behind_is ∙ e);
-      within = omega (arith, gate.0, s.used, used_within);
+      within = omega (arith, gate.0, s.keeps.used, used_within);
       sizes = s.sizes;
     }
 
@@ -161,4 +153,4 @@ module _ (journal : Kept) (image : List ℕ) (s : Scanned journal image) where
   overrun used_within gate others stands =
       let f = follows others stands in
       let long : length (frames others) ≡ length F + length (frames f.rest) = ap (λ (l : List (List ℕ)). length (frames l)) f.others_are ∙ length-frames s.bodies f.rest in
-      too_far f.rest stands.gate stands.behind stands.shut f.more_is (omega (arith, stands.within, long, s.used, used_within)) f.sizes gate
+      too_far f.rest stands.gate stands.behind stands.shut f.more_is (omega (arith, stands.within, long, s.keeps.used, used_within)) f.sizes gate

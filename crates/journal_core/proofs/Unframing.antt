@@ -1,8 +1,8 @@
 -- Framed bodies come apart in one way.
-use Rattle.std.proofs.Common.{◌≡◌, ◌≢◌, ℕ, ◌+◌, ◌<◌, ◌^◌, List, [], ◌∷◌, ◌++◌, length, take, drop, map, refl, sym, ◌∙◌, ap, subst, arith, append_assoc, length-append}
+use Rattle.std.proofs.Common.{◌≡◌, ◌≢◌, ℕ, ◌+◌, ◌<◌, ◌^◌, List, [], ◌∷◌, ◌++◌, length, take, drop, get_or, map, suc, refl, sym, ◌∙◌, ap, subst, arith, append_assoc, length-append}
 use Rattle.std.proofs.lemmas.List.{take_at, drop_at, drop-drop}
 use Rattle.std.specs.Int.{to_be_bytes, w32}
-use Rattle.journal_core.specs.Frames.{frame, frames}
+use Rattle.journal_core.specs.Frames.{frame, frames, AreBodies}
 use Rattle.journal_core.specs.Unframed.{bodies_in, IsFramed}
 
 -- the five bytes before a body
@@ -46,3 +46,24 @@ closed bodies lengths bytes whole lengths_are bytes_are whole_is = subst (λ (l 
 pub bodies_come_back : (bodies : List (List ℕ)) (lengths bytes whole : List ℕ) → lengths ≡ map length bodies → bytes ≡ frames bodies → whole ≡ bytes ++ 0 ∷ [] → bodies_in lengths whole ≡ bodies
 bodies_come_back bodies lengths bytes whole lengths_are bytes_are whole_is =
     ap (λ (l : List ℕ). bodies_in l whole) lengths_are ∙ ap (λ (l : List ℕ). bodies_in (map length bodies) l) (whole_is ∙ ap (λ (l : List ℕ). l ++ 0 ∷ []) bytes_are) ∙ bodies_in-frames bodies (0 ∷ [])
+
+-- the gate before the first of some bodies
+pub first_gate : (bodies : List (List ℕ)) → 0 < length bodies → 0xa5 ∷ drop 1 (frames bodies ++ 0 ∷ []) ≡ frames bodies ++ 0 ∷ []
+first_gate [] none = absurd (omega (arith, none))
+first_gate (body ∷ bodies) some = refl
+
+-- lengths of four bytes
+pub are_bodies : (bodies : List (List ℕ)) (lengths : List ℕ) → map length bodies ≡ lengths → ((i : ℕ) → get_or lengths i 0 < 2 ^ 32) → AreBodies bodies
+are_bodies [] lengths same fit = tt
+are_bodies (body ∷ bodies) lengths same fit = (
+  subst (λ (l : List ℕ). get_or l 0 0 < 2 ^ 32) (sym same) (fit 0),
+  are_bodies bodies (drop 1 lengths) (ap (λ (l : List ℕ). drop 1 l) same) (λ i. subst (λ (l : List ℕ). get_or l (suc i) 0 < 2 ^ 32) (let e : lengths ≡ length body ∷ drop 1 lengths = sym same ∙ ap (λ (l : List ℕ). length body ∷ l) (ap (λ (l : List ℕ). drop 1 l) same) in e) (fit (suc i))),
+)
+
+-- one body with its frame and the gate behind it
+pub length-one : (bodies : List (List ℕ)) (lengths : List ℕ) → length bodies ≡ 1 → map length bodies ≡ lengths → length (frames bodies ++ 0 ∷ []) ≡ 6 + get_or lengths 0 0
+length-one [] lengths one same = absurd (omega (arith, one))
+length-one (body ∷ []) lengths one same =
+    let first : length body ≡ get_or lengths 0 0 = ap (λ (l : List ℕ). get_or l 0 0) same in
+    omega (arith, length-append (frame body ++ []) (0 ∷ []), length-append (frame body) [], length-frame body, first)
+length-one (body ∷ other ∷ bodies) lengths one same = absurd (omega (arith, one))

@@ -19,12 +19,21 @@ pub record Kept : Type 0 where
 abbrev pub IsWithin : Region → ℕ → Type 0
 IsWithin region extent = region.at + region_size region ≤ extent
 
+-- of the same region and half
+pub record IsOf (old new : Kept) : Type 0 where
+  pub region : new.region ≡ old.region
+  pub second : new.second ≡ old.second
+
+-- the places are those of the bodies, framed from the beginning of the half on
+pub record Keeps (journal : Kept) (bodies : List (List ℕ)) : Type 0 where
+  pub places : journal.places ≡ places_from (half_at journal.region journal.second) bodies
+  pub used : journal.used ≡ length (frames bodies)
+
 -- the region of the image stands for the bodies, and the journal keeps their half and places
 pub record Fits (journal : Kept) (image : List ℕ) (bodies : List (List ℕ)) : Type 0 where
   pub selector : selected journal.region image ≡ journal.second
   pub stands : RegionStands journal.region image bodies
-  pub places : journal.places ≡ places_from (half_at journal.region journal.second) bodies
-  pub used : journal.used ≡ length (frames bodies)
+  pub keeps : Keeps journal bodies
 
 -- the same but for the room
 pub record SameBut (old new : Kept) : Type 0 where

@@ -8,17 +8,12 @@ use Rattle.journal_core.specs.declared.mount.Gate.TheVariants as gates
 use Rattle.journal_core.specs.Frames.{frames}
 use Rattle.journal_core.specs.Region.{half_at, HalfStands}
 use Rattle.journal_core.specs.Place.{places_from}
-use Rattle.journal_core.specs.Kept.{Kept}
+use Rattle.journal_core.specs.Kept.{Kept, IsOf, Keeps}
 
 -- nothing is taken in yet
 pub record IsEmpty (journal : Kept) : Type 0 where
   pub places : journal.places ≡ []
   pub used : journal.used ≡ 0
-
--- of the same region and half
-pub record IsOf (old new : Kept) : Type 0 where
-  pub region : new.region ≡ old.region
-  pub second : new.second ≡ old.second
 
 -- the image from the next gate on
 abbrev pub behind : Kept → List ℕ → List ℕ
@@ -44,8 +39,7 @@ pub record TakesIn (length : ℕ) (old new : Kept) : Type 0 where
 
 -- the half of the journal that began stands for bodies, whose places are kept; or for none
 abbrev pub Scans : Kept → List ℕ → Result Kept JournalFault → Type 0
-Scans start image (Ok journal) = IsOf start journal × ((bodies : List (List ℕ)) × HalfStands (half_at journal.region journal.second) journal.region.half image bodies
-    × (journal.places ≡ places_from (half_at journal.region journal.second) bodies) × (journal.used ≡ length (frames bodies)))
+Scans start image (Ok journal) = IsOf start journal × ((bodies : List (List ℕ)) × HalfStands (half_at journal.region journal.second) journal.region.half image bodies × Keeps journal bodies)
 Scans start image (Err mount.NoJournal) = (bodies : List (List ℕ)) → HalfStands (half_at start.region start.second) start.region.half image bodies → ⊥
 Scans start image (Err mount.DiskFault) = Unit {0}
 Scans start image (Err mount.NoMemory) = Unit {0}

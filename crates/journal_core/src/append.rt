@@ -44,14 +44,13 @@ impl Journal {
             Passes (B.now board.old) (B.now board.new) (B.left board.old) (B.left board.new)
             (Leaves self.old.region bodies (bodies ++ framed.now) (B.now board.old)) }
     {
-        let size = board.size();
-        prove!(self.region.at <= size);
-        if self.region.half - self.used < framed.bytes.len() as u64 {
+        if self.room() < framed.bytes().len() as u64 {
             return Err(AppendFault::Full);
         }
-        let gate = self.half_at() + self.used;
-        write_gated(board, gate + 1, &framed.bytes[1..], gate, OPEN)?;
-        self.take_in_reserved(framed.lengths[0]);
+        let lengths = framed.lengths();
+        let gate = self.gate_at();
+        write_gated(board, gate + 1, framed.behind_gate(), gate, OPEN)?;
+        self.take_in_reserved(lengths[0]);
         Ok(())
     }
 }

@@ -1,5 +1,5 @@
-ghost use Rattle.std.specs.Prelude.{◌≡◌, ◌+◌, ◌++◌, ◌∷◌, [], ◌<◌, ◌^◌, length, IfOk, OnOk};
-ghost use Rattle.journal_core.specs.Frames.{frame, AreBodies};
+ghost use Rattle.std.specs.Prelude.{◌≡◌, ℕ, ◌+◌, ◌++◌, ◌∷◌, [], ◌<◌, ◌^◌, length, map, slice_index, IfOk, OnOk};
+ghost use Rattle.journal_core.specs.Frames.{frame, frames, AreBodies};
 
 use base_types::{List, Octets, OrMemory};
 use std::alloc::Global;
@@ -17,8 +17,8 @@ pub(crate) const CLOSED: u8 = 0;
 #[derive(Debug, Drop)]
 pub struct Framed {
     // each body behind an open gate and its length, and a closed gate behind the last
-    pub(crate) bytes: Vec<u8>,
-    pub(crate) lengths: Vec<u32>,
+    bytes: Vec<u8>,
+    lengths: Vec<u32>,
 }
 
 impl Model for Framed {
@@ -49,6 +49,32 @@ impl Framed {
         bytes.push(CLOSED)?;
         Ok(Framed { bytes, lengths })
     }
+
+    // Every byte, the closed gate at the end included.
+    pub(crate) fn bytes(&self) -> &[u8]
+        ensures { result.now ≡ frames self.now ++ 0 ∷ [] }
+    {
+        self.bytes.as_slice()
+    }
+
+    // Every byte behind the first gate, where there is a body.
+    pub(crate) fn behind_gate(&self) -> &[u8]
+        requires { 0 < length self.now }
+        ensures { 0xa5 ∷ result.now ≡ frames self.now ++ 0 ∷ [] }
+    {
+        &self.bytes[1..]
+    }
+
+    // The lengths of the bodies.
+    pub(crate) fn lengths(&self) -> &[u32]
+        ensures lengths { map length self.now ≡ result.now }
+        ensures count { length result.now ≡ length self.now }
+        ensures bodies { AreBodies self.now }
+    {
+        let lengths = self.lengths.as_slice();
+        know_lengths(lengths);
+        lengths
+    }
 }
 
 fn push_frame(bytes: &mut Vec<u8>, body: &[u8]) -> OrMemory<()>
@@ -59,4 +85,11 @@ fn push_frame(bytes: &mut Vec<u8>, body: &[u8]) -> OrMemory<()>
     bytes.extend_from_slice(&(body.len() as u32).to_be_bytes())?;
     bytes.extend_from_slice(body)?;
     Ok(())
+}
+
+// Each length has four bytes.
+fn know_lengths(lengths: &[u32])
+    ensures { (i : ℕ) → slice_index lengths.now i < 2 ^ 32 }
+{
+    let _count = lengths.len();
 }

@@ -1,6 +1,6 @@
-ghost use Rattle.std.specs.Prelude.{◌≡◌, ◌+◌, ◌<◌, ◌≤◌, ℕ, length, OnOk, OnErr, slice_get, Some};
+ghost use Rattle.std.specs.Prelude.{◌≡◌, ◌+◌, ◌<◌, ◌≤◌, ◌^◌, ℕ, length, OnOk, OnErr, slice_get, Some};
 ghost use Rattle.journal_core.specs.declared.place.Place.{Place};
-ghost use Rattle.journal_core.specs.Region.{half_at};
+ghost use Rattle.journal_core.specs.Region.{half_at, region_size};
 ghost use Rattle.journal_core.specs.Kept.{Kept, SameBut};
 ghost use Rattle.journal_core.specs.Scanning.{IsEmpty, TakesIn};
 
@@ -39,6 +39,22 @@ impl Journal {
         ensures { result ≡ half_at self.now.region self.now.second }
     {
         self.region.half_at(self.second)
+    }
+
+    // Where the gate behind the bodies is.
+    pub(crate) fn gate_at(&self) -> u64
+        ensures at { result ≡ half_at self.now.region self.now.second + self.now.used }
+        ensures below { result + self.now.region.half ≤ self.now.region.at + region_size self.now.region + self.now.used }
+        ensures fits { self.now.region.at + region_size self.now.region < 2 ^ 64 }
+    {
+        self.half_at() + self.used
+    }
+
+    // How many bytes of the half the bodies leave.
+    pub(crate) fn room(&self) -> u64
+        ensures { result + self.now.used ≡ self.now.region.half }
+    {
+        self.region.half - self.used
     }
 
     /// The number of bodies.

@@ -5,7 +5,7 @@ ghost use Rattle.board_core.specs.Moments.{Passes, NoMoment};
 ghost use Rattle.board_core.specs.Calls.{DiskCause};
 ghost use Rattle.journal_core.specs.Region.{selected};
 ghost use Rattle.journal_core.specs.Kept.{IsWithin};
-ghost use Rattle.journal_core.specs.Scanning.{IsEmpty, IsOf, Scans, GateIs, FitsIn, behind, TakesIn};
+ghost use Rattle.journal_core.specs.Scanning.{IsEmpty, Scans, GateIs, FitsIn, behind, TakesIn};
 ghost use Rattle.journal_core.specs.Outcome.{DiskAlone, Mounts};
 
 use crate::fault::JournalFault;

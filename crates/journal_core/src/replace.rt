@@ -4,7 +4,8 @@ ghost use Rattle.board_core.specs.Contents.{NothingPending};
 ghost use Rattle.board_core.specs.Moments.{Passes};
 ghost use Rattle.journal_core.specs.Frames.{frames};
 ghost use Rattle.journal_core.specs.Region.{Leaves};
-ghost use Rattle.journal_core.specs.Kept.{IsWithin, Fits};
+ghost use Rattle.journal_core.specs.Kept.{IsWithin, Fits, IsOf, Keeps};
+ghost use Rattle.journal_core.specs.Scanning.{IsEmpty};
 ghost use Rattle.journal_core.specs.Outcome.{DiskAlone, Stores};
 
 use crate::fault::AppendFault;
@@ -44,18 +45,28 @@ impl Journal {
             Passes (B.now board.old) (B.now board.new) (B.left board.old) (B.left board.new)
             (Leaves self.old.region bodies framed.now (B.now board.old)) }
     {
-        let size = board.size();
-        prove!(self.region.at <= size);
-        if self.region.half < framed.bytes.len() as u64 {
+        if self.region.half < framed.bytes().len() as u64 {
             return Err(AppendFault::Full);
         }
         let second = !self.second;
         let at = self.region.half_at(second);
-        write_gated(board, at, &framed.bytes, self.region.at, u8::from(second))?;
+        write_gated(board, at, framed.bytes(), self.region.at, u8::from(second))?;
         self.begin_half(second);
-        for length in framed.lengths.as_slice() {
+        self.take_all(framed);
+        Ok(())
+    }
+
+    // Keeps the places of all the bodies, in a half that has none yet.
+    fn take_all(&mut self, framed: &Framed)
+        requires empty { IsEmpty self.old }
+        requires fits { length (frames framed.now) + 1 ≤ self.old.region.half }
+        requires room { length framed.now ≤ self.old.spare }
+        ensures of { IsOf self.old self.new }
+        ensures keeps { Keeps self.new framed.now }
+        ensures spare { self.old.spare ≤ self.new.spare + length framed.now }
+    {
+        for length in framed.lengths() {
             self.take_in_reserved(*length);
         }
-        Ok(())
     }
 }

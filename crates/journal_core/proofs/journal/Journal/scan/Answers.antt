@@ -27,8 +27,7 @@ returns-in-Closed-clause-mounts g c = λ told. let b = g.B.Board in
         going_closed b.told c.args.self (b.faults c.args.board.now) (b.extent c.args.board.now) (b.now c.args.board.now) (b.left c.args.board.now) c.requires.within (g.met.B.Board.measured c.args.board.now)
             c.loop-self.self (b.faults c.loop-self.board) (b.faults c.next_gate.new.board) (b.extent c.loop-self.board) (b.extent c.next_gate.new.board) (b.now c.loop-self.board) (b.now c.next_gate.new.board) (b.left c.loop-self.board) (b.left c.next_gate.new.board)
             c.loop-self.invariant told (subst (λ (gate : Gate). GateIs room (behind c.loop-self.self (b.now c.loop-self.board).bytes) gate) c.in-Closed.is (c.in_ok-next_gate.ensures.gate told)),
-        s.places,
-        s.used,
+        s.keeps,
       ),
     )
 
