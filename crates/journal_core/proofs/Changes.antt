@@ -171,7 +171,7 @@ module _ (journal : Kept) (old : Contents) (bodies : List (List ℕ)) (fits : Fi
     replace_done new image byte is second region_is second_is keeps =
         let fit : region.at + 1 ≤ length (written old.bytes other_at bytes) = omega (arith, whole_outside.length_kept, inside) in
         let same : SameOutside region.at 1 (written old.bytes other_at bytes) image = subst (λ (l : List ℕ). SameOutside region.at 1 (written old.bytes other_at bytes) l) (sym is)
-            (outside_written region.at 1 region.at (written old.bytes other_at bytes) (byte ∷ []) (omega arith) (omega arith) fit) in
+        (outside_written region.at 1 region.at (written old.bytes other_at bytes) (byte ∷ []) (omega arith) (omega arith) fit) in
         let selector : selected region image ≡ not journal.second = ap (λ (k : ℕ). is_second k) (ap (λ (l : List ℕ). get_or l region.at 0) is ∙ written-byte (written old.bytes other_at bytes) region.at byte fit) ∙ second in
         record {
           selector = ap (λ (r : Region). selected r image) region_is ∙ selector ∙ sym second_is;

@@ -1,6 +1,7 @@
 -- Framed bodies come apart in one way.
-use Rattle.std.proofs.Common.{◌≡◌, ◌≢◌, ℕ, ◌+◌, ◌<◌, ◌^◌, List, [], ◌∷◌, ◌++◌, length, take, drop, get_or, map, suc, refl, sym, ◌∙◌, ap, subst, arith, append_assoc, length-append}
-use Rattle.std.proofs.lemmas.List.{take_at, drop_at, drop-drop}
+use Rattle.std.proofs.Common.{◌≡◌, ◌≢◌, ℕ, ◌+◌, ◌<◌, ◌≤◌, ◌^◌, List, [], ◌∷◌, ◌++◌, length, take, drop, get_or, map, suc, refl, sym, ◌∙◌, ap, subst, arith, append_assoc, length-append}
+use Rattle.std.proofs.lemmas.List.{take_at, drop_at, drop-drop, get_or-map}
+use Rattle.std.proofs.lemmas.List.Folds.{length-flat_map-take}
 use Rattle.std.specs.Int.{to_be_bytes, w32}
 use Rattle.journal_core.specs.Frames.{frame, frames, AreBodies}
 use Rattle.journal_core.specs.Unframed.{bodies_in, IsFramed}
@@ -67,3 +68,11 @@ length-one (body ∷ []) lengths one same =
     let first : length body ≡ get_or lengths 0 0 = ap (λ (l : List ℕ). get_or l 0 0) same in
     omega (arith, length-append (frame body ++ []) (0 ∷ []), length-append (frame body) [], length-frame body, first)
 length-one (body ∷ other ∷ bodies) lengths one same = absurd (omega (arith, one))
+
+-- the next body of some, and its length
+pub length-next : (bodies : List (List ℕ)) (lengths : List ℕ) (i : ℕ) → map length bodies ≡ lengths → i < length bodies → length (get_or bodies i []) ≡ get_or lengths i 0
+length-next bodies lengths i same within = sym (get_or-map length bodies i [] 0 within) ∙ ap (λ (l : List ℕ). get_or l i 0) same
+
+pub next_fits : (bodies : List (List ℕ)) (lengths : List ℕ) (i : ℕ) → map length bodies ≡ lengths → i < length bodies → length (frames (take i bodies)) + 5 + get_or lengths i 0 ≤ length (frames bodies)
+next_fits bodies lengths i same within =
+    omega (arith, length-flat_map-take frame bodies i [] within, length-frame (get_or bodies i []), length-next bodies lengths i same within)

@@ -52,8 +52,10 @@ impl Framed {
 
     // Every byte, the closed gate at the end included.
     pub(crate) fn bytes(&self) -> &[u8]
-        ensures { result.now ≡ frames self.now ++ 0 ∷ [] }
+        ensures bytes { result.now ≡ frames self.now ++ 0 ∷ [] }
+        ensures bodies { AreBodies self.now }
     {
+        know_lengths(self.lengths.as_slice());
         self.bytes.as_slice()
     }
 

@@ -1,6 +1,6 @@
-ghost use Rattle.std.specs.Prelude.{◌≡◌, ◌+◌, ◌<◌, ◌≤◌, ◌^◌, ℕ, length, OnOk, OnErr, slice_get, Some};
+ghost use Rattle.std.specs.Prelude.{◌≡◌, ◌+◌, ◌<◌, ◌≤◌, ◌^◌, ℕ, length, OnOk, OnErr, slice_get, Some, not};
 ghost use Rattle.journal_core.specs.declared.place.Place.{Place};
-ghost use Rattle.journal_core.specs.Region.{half_at, region_size};
+ghost use Rattle.journal_core.specs.Region.{half_at, is_second, region_size};
 ghost use Rattle.journal_core.specs.Kept.{Kept, SameBut};
 ghost use Rattle.journal_core.specs.Scanning.{IsEmpty, TakesIn};
 
@@ -48,6 +48,34 @@ impl Journal {
         ensures fits { self.now.region.at + region_size self.now.region < 2 ^ 64 }
     {
         self.half_at() + self.used
+    }
+
+    // Where the half begins that does not count, and where the selector is.
+    pub(crate) fn other_at(&self) -> u64
+        ensures at { result ≡ half_at self.now.region (not self.now.second) }
+        ensures fits { self.now.region.at + region_size self.now.region < 2 ^ 64 }
+    {
+        self.region.half_at(!self.second)
+    }
+
+    pub(crate) fn selector_at(&self) -> u64
+        ensures { result ≡ self.now.region.at }
+    {
+        self.region.at
+    }
+
+    // The selector by which the other half counts.
+    pub(crate) fn other_selector(&self) -> u8
+        ensures { is_second result ≡ not self.now.second }
+    {
+        if self.second { 0 } else { 1 }
+    }
+
+    // How many bytes a half has.
+    pub(crate) fn half(&self) -> u64
+        ensures { result ≡ self.now.region.half }
+    {
+        self.region.half
     }
 
     // How many bytes of the half the bodies leave.
@@ -120,15 +148,15 @@ impl Journal {
         self.used += 5 + u64::from(length);
     }
 
-    // No body yet, and this half counts. The places' room stays.
-    pub(crate) fn begin_half(&mut self, second: bool)
+    // The other half counts, and has no body yet. The places' room stays.
+    pub(crate) fn begin_other(&mut self)
         ensures empty { IsEmpty self.new }
         ensures region { self.new.region ≡ self.old.region }
-        ensures second { self.new.second ≡ second }
+        ensures second { self.new.second ≡ not self.old.second }
         ensures room { self.old.spare + length self.old.places ≤ self.new.spare }
     {
         self.places.clear();
-        self.second = second;
+        self.second = !self.second;
         self.used = 0;
     }
 }

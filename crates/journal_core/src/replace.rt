@@ -45,13 +45,14 @@ impl Journal {
             Passes (B.now board.old) (B.now board.new) (B.left board.old) (B.left board.new)
             (Leaves self.old.region bodies framed.now (B.now board.old)) }
     {
-        if self.region.half < framed.bytes().len() as u64 {
+        if self.half() < framed.bytes().len() as u64 {
             return Err(AppendFault::Full);
         }
-        let second = !self.second;
-        let at = self.region.half_at(second);
-        write_gated(board, at, framed.bytes(), self.region.at, u8::from(second))?;
-        self.begin_half(second);
+        let at = self.other_at();
+        let gate = self.selector_at();
+        let selector = self.other_selector();
+        write_gated(board, at, framed.bytes(), gate, selector)?;
+        self.begin_other();
         self.take_all(framed);
         Ok(())
     }
