@@ -14,7 +14,7 @@ use Rattle.journal_core.specs.Region.{half_at, HalfStands}
 use Rattle.journal_core.specs.Kept.{Kept, IsOf, Keeps}
 use Rattle.journal_core.specs.Scanning.{IsEmpty, GateIs, behind, TakesIn}
 use Rattle.journal_core.proofs.Unframing.{opening, length-opening, length-frame, behind_frame, drop-opening}
-use Rattle.journal_core.proofs.Prefixes.{GoesOn, goes_on}
+use Rattle.journal_core.proofs.Fronts.{OverrunBy, front_overruns}
 
 -- where the half that counts begins
 abbrev pub begins : Kept → ℕ
@@ -47,9 +47,6 @@ sizes-more (b ∷ bodies) body sizes size = (sizes.0, sizes-more bodies body siz
 
 pub frames-more : (bodies : List (List ℕ)) (body : List ℕ) → frames bodies ++ frame body ≡ frames (bodies ++ body ∷ [])
 frames-more bodies body = flat_map_more frame [] bodies body
-
-length-frames : (bodies rest : List (List ℕ)) → length (frames (bodies ++ rest)) ≡ length (frames bodies) + length (frames rest)
-length-frames bodies rest = ap (λ (l : List ℕ). length l) (flat_map-append frame bodies rest) ∙ length-append (frames bodies) (frames rest)
 
 pub places-more : (at : ℕ) (bodies : List (List ℕ)) (body : List ℕ)
     → places_from at (bodies ++ body ∷ []) ≡ places_from at bodies ++ record { at = at + length (frames bodies) + 5; length = length body } ∷ []
@@ -128,29 +125,9 @@ module _ (journal : Kept) (image : List ℕ) (s : Scanned journal image) where
       sizes = s.sizes;
     }
 
-  -- what a list of the half would have behind the bodies so far
-  follows : (others : List (List ℕ)) (stands : HalfStands (begins journal) journal.region.half image others) → GoesOn s.bodies others s.more stands.gate stands.behind
-  follows others stands = goes_on s.bodies others s.more stands.gate stands.behind s.sizes stands.sizes stands.shut
-      (sym (drop_at s.before (F ++ s.more) (begins journal) s.place) ∙ ap (λ (l : List ℕ). drop (begins journal) l) (sym s.whole ∙ stands.whole)
-      ∙ drop_at stands.before (frames others ++ stands.gate ∷ stands.behind) (begins journal) stands.place)
-
-  -- one byte of gate and a frame do not fit
-  too_far : (rest : List (List ℕ)) (gate : ℕ) (behind_gate : List ℕ) → gate ≢ 0xa5 → s.more ≡ frames rest ++ gate ∷ behind_gate → length (frames rest) + 1 ≤ journal.region.half - journal.used
-      → AreBodies rest → GateIs (journal.region.half - journal.used) (behind journal image) gates.Overrun → ⊥
-  too_far rest gate behind_gate shut is room sizes (inl none) = omega (arith, none, room)
-  too_far [] gate behind_gate shut is room sizes (inr x) = shut (sym (ap (λ (l : List ℕ). get_or l 0 0) (behind_is ∙ is)) ∙ x.0)
-  too_far (d ∷ ds) gate behind_gate shut is room sizes (inr x) =
-      let more_is : s.more ≡ opening (length d) ++ (d ++ (frames ds ++ gate ∷ behind_gate)) = is ∙ behind_frame d ds (gate ∷ behind_gate) in
-      let number : from_be_bytes w32 (take 4 (drop 1 (behind journal image))) ≡ length d =
-      ap (λ (l : List ℕ). from_be_bytes w32 (take 4 (drop 1 l))) (behind_is ∙ more_is)
-      ∙ ap (λ (l : List ℕ). from_be_bytes w32 l) (take_at (to_be_bytes w32 (length d)) (d ++ (frames ds ++ gate ∷ behind_gate)) 4 refl) ∙ from_be_bytes-to_be_bytes_4 (length d) sizes.0 in
-      let long : 6 + length d ≤ journal.region.half - journal.used = omega (arith, room, length-append (frame d) (frames ds), length-frame d) in
-      elim x.1 [ inl short ↦ omega (arith, short, long) | inr short ↦ omega (arith, short, long, number) ]
-
   -- the half stands for no list where the next gate is open and its frame reaches past the half
   pub overrun : journal.used ≤ journal.region.half → GateIs (journal.region.half - journal.used) (behind journal image) gates.Overrun
       → (others : List (List ℕ)) → HalfStands (begins journal) journal.region.half image others → ⊥
-  overrun used_within gate others stands =
-      let f = follows others stands in
-      let long : length (frames others) ≡ length F + length (frames f.rest) = ap (λ (l : List (List ℕ)). length (frames l)) f.others_are ∙ length-frames s.bodies f.rest in
-      too_far f.rest stands.gate stands.behind stands.shut f.more_is (omega (arith, stands.within, long, s.keeps.used, used_within)) f.sizes gate
+  overrun used_within gate others stands = front_overruns (begins journal) journal.region.half image s.bodies s.before s.more s.whole s.place s.sizes
+      (subst (λ (k : ℕ). OverrunBy (journal.region.half - k) s.more) s.keeps.used (subst (λ (l : List ℕ). OverrunBy (journal.region.half - journal.used) l) behind_is gate))
+      (omega (arith, s.keeps.used, used_within)) others stands

@@ -5,3 +5,4 @@ pub mod Region
 pub mod Kept
 pub mod Outcome
 pub mod Scanning
+pub mod Laws
