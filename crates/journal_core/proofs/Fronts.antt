@@ -21,7 +21,7 @@ module _ (at half : ℕ) (image : List ℕ) (bodies : List (List ℕ)) (before m
   pub follows : (others : List (List ℕ)) (stands : HalfStands at half image others) → GoesOn bodies others more stands.gate stands.behind
   follows others stands = goes_on bodies others more stands.gate stands.behind sizes stands.sizes stands.shut
       (sym (drop_at before (frames bodies ++ more) at place) ∙ ap (λ (l : List ℕ). drop at l) (sym whole ∙ stands.whole)
-        ∙ drop_at stands.before (frames others ++ stands.gate ∷ stands.behind) at stands.place)
+      ∙ drop_at stands.before (frames others ++ stands.gate ∷ stands.behind) at stands.place)
 
   -- a list of the half leaves room for its frames and the gate behind them
   too_far : (room : ℕ) (rest : List (List ℕ)) (gate : ℕ) (behind : List ℕ) → gate ≢ 0xa5 → more ≡ frames rest ++ gate ∷ behind → length (frames rest) + 1 ≤ room → AreBodies rest → OverrunBy room more → ⊥
@@ -30,8 +30,8 @@ module _ (at half : ℕ) (image : List ℕ) (bodies : List (List ℕ)) (before m
   too_far room (d ∷ ds) gate behind shut is fits rest_sizes (inr x) =
       let more_is : more ≡ opening (length d) ++ (d ++ (frames ds ++ gate ∷ behind)) = is ∙ behind_frame d ds (gate ∷ behind) in
       let number : from_be_bytes w32 (take 4 (drop 1 more)) ≡ length d =
-          ap (λ (l : List ℕ). from_be_bytes w32 (take 4 (drop 1 l))) more_is
-          ∙ ap (λ (l : List ℕ). from_be_bytes w32 l) (take_at (to_be_bytes w32 (length d)) (d ++ (frames ds ++ gate ∷ behind)) 4 refl) ∙ from_be_bytes-to_be_bytes_4 (length d) rest_sizes.0 in
+      ap (λ (l : List ℕ). from_be_bytes w32 (take 4 (drop 1 l))) more_is
+      ∙ ap (λ (l : List ℕ). from_be_bytes w32 l) (take_at (to_be_bytes w32 (length d)) (d ++ (frames ds ++ gate ∷ behind)) 4 refl) ∙ from_be_bytes-to_be_bytes_4 (length d) rest_sizes.0 in
       let long : 6 + length d ≤ room = omega (arith, fits, length-append (frame d) (frames ds), length-frame d) in
       elim x.1 [ inl short ↦ omega (arith, short, long) | inr short ↦ omega (arith, short, long, number) ]
 

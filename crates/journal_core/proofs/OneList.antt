@@ -82,7 +82,7 @@ longer image bodies before more whole sizes bytes long open_ =
     let rest : List ℕ = drop n (drop 5 more) in
     let size : length body ≡ n = length-take-le n (drop 5 more) (omega (arith, length-drop 5 more, long)) in
     let more_is : more ≡ frame body ++ rest = sym (take-append-drop 5 more) ∙ ap (λ (l : List ℕ). l ++ drop 5 more) (sym (opens more bytes (omega (arith, long)) open_) ∙ ap (λ (k : ℕ). opening k) (sym size))
-        ∙ ap (λ (l : List ℕ). opening (length body) ++ l) (sym (take-append-drop n (drop 5 more))) ∙ sym (append_assoc (opening (length body)) body rest) in
+    ∙ ap (λ (l : List ℕ). opening (length body) ++ l) (sym (take-append-drop n (drop 5 more))) ∙ sym (append_assoc (opening (length body)) body rest) in
     record {
       body = body;
       rest = rest;
@@ -107,11 +107,19 @@ module _ (at half : ℕ) (image : List ℕ) (inside : at + half ≤ length image
       elim (cases_lt half (L + 1)) [
         | inl none ↦ inr (record { bodies = bodies; before = before; behind = more; whole = whole; place = place; sizes = sizes; past = inl none })
         | inr room ↦ elim (cases_eq (get_or more 0 0) 0xa5) [
-          | inr shut ↦ inl (bodies, record {
-              before = before; gate = get_or more 0 0; behind = drop 1 more;
+          | inr shut ↦ inl (
+            bodies,
+            record {
+              before = before;
+              gate = get_or more 0 0;
+              behind = drop 1 more;
               whole = whole ∙ ap (λ (l : List ℕ). before ++ (frames bodies ++ l)) (cons_of more (omega (arith, long, room)));
-              place = place; shut = shut; within = room; sizes = sizes;
-            })
+              place = place;
+              shut = shut;
+              within = room;
+              sizes = sizes;
+            },
+          )
           | inl open_ ↦ elim (cases_lt half (L + 6)) [
             | inl short ↦ inr (record { bodies = bodies; before = before; behind = more; whole = whole; place = place; sizes = sizes; past = inr (open_, inl short) })
             | inr head ↦ elim (cases_lt half (L + 6 + from_be_bytes w32 (take 4 (drop 1 more)))) [
