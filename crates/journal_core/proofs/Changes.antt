@@ -1,5 +1,5 @@
 -- What a change of the list leaves, at each moment and at its end.
-use Rattle.std.proofs.Common.{◌≡◌, ◌≢◌, ℕ, ◌+◌, ◌-◌, ◌*◌, ◌<◌, ◌≤◌, ◌⊎◌, inl, inr, Bool, true, false, not, List, [], ◌∷◌, ◌++◌, length, take, drop, get_or, map, refl, sym, ◌∙◌, ap, subst, arith}
+use Rattle.std.proofs.Common.{◌≡◌, ℕ, ◌+◌, ◌<◌, ◌≤◌, ◌⊎◌, inl, inr, Bool, true, false, not, List, [], ◌∷◌, ◌++◌, length, get_or, map, refl, sym, ◌∙◌, ap, subst, arith}
 use Rattle.std.proofs.lemmas.List.{append-nil}
 use Rattle.std.proofs.lemmas.Grind.{common_steps}
 use Rattle.board_core.specs.Contents.{Contents}
@@ -9,10 +9,10 @@ use Rattle.board_core.proofs.Ranges.{outside_wider, outside_written, outside_tra
 use Rattle.journal_core.specs.declared.region.Region.{Region}
 use Rattle.journal_core.specs.Frames.{frame, frames, IsBody, AreBodies}
 use Rattle.journal_core.specs.Region.{region_size, half_at, is_second, selected, HalfStands, RegionStands, Leaves}
-use Rattle.journal_core.specs.Kept.{Kept, IsWithin, IsOf, Keeps, Fits}
+use Rattle.journal_core.specs.Kept.{Kept, IsWithin, Keeps, Fits}
 use Rattle.journal_core.specs.Scanning.{TakesIn}
 use Rattle.journal_core.proofs.Scan.{half_inside}
-use Rattle.journal_core.proofs.Scanned.{begins, begins_same, keeps_more}
+use Rattle.journal_core.proofs.Scanned.{begins, keeps_more}
 use Rattle.journal_core.proofs.Halves.{stands_elsewhere, gated, gate_open, written_stands}
 
 -- the byte that was written

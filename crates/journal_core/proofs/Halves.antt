@@ -1,13 +1,12 @@
 -- What changes of an image leave of the list in a half.
-use Rattle.std.proofs.Common.{◌≡◌, ◌≢◌, ℕ, ◌+◌, ◌-◌, ◌<◌, ◌≤◌, ◌⊎◌, inl, inr, Bool, true, false, List, [], ◌∷◌, ◌++◌, length, take, drop, get_or, refl, sym, ◌∙◌, ap, subst, arith, append_assoc, length-append, take-append-drop, add-one}
-use Rattle.std.proofs.lemmas.List.{take_at, drop_at, length-take-le, length-drop}
+use Rattle.std.proofs.Common.{◌≡◌, ◌≢◌, ℕ, ◌+◌, ◌-◌, ◌<◌, ◌≤◌, ◌⊎◌, inl, inr, List, [], ◌∷◌, ◌++◌, length, take, drop, get_or, sym, ◌∙◌, ap, subst, arith, append_assoc, length-append, take-append-drop, add-one}
+use Rattle.std.proofs.lemmas.List.{take_at, drop_at, length-take-le}
 use Rattle.std.proofs.lemmas.Bool.{cases_eq}
 use Rattle.std.proofs.Math.Seq.{drop-cons}
 use Rattle.board_core.specs.Moments.{SameOutside, written}
 use Rattle.board_core.proofs.Ranges.{outside_wider, outside_written}
 use Rattle.journal_core.specs.Frames.{frame, frames, IsBody, AreBodies}
 use Rattle.journal_core.specs.Region.{HalfStands}
-use Rattle.journal_core.proofs.Unframing.{length-frame}
 use Rattle.journal_core.proofs.Scanned.{sizes-more, frames-more}
 
 module _ (begins half : ℕ) (image : List ℕ) (bodies : List (List ℕ)) (s : HalfStands begins half image bodies) where

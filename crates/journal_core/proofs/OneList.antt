@@ -1,16 +1,14 @@
 -- A half is a list of bodies, or overruns.
-use Rattle.std.proofs.Common.{◌≡◌, ◌≢◌, ℕ, zero, suc, ◌+◌, ◌-◌, ◌<◌, ◌≤◌, ◌^◌, ◌⊎◌, inl, inr, List, [], ◌∷◌, ◌++◌, length, take, drop, get_or, refl, sym, ◌∙◌, ap, subst, arith, append_assoc, length-append, take-append-drop}
-use Rattle.std.proofs.lemmas.List.{take_at, drop_at, append-nil, length-take, length-take-le, length-drop, get_or-take, get_or-drop, get_or_past}
+use Rattle.std.proofs.Common.{◌≡◌, ℕ, zero, suc, ◌+◌, ◌-◌, ◌<◌, ◌≤◌, ◌^◌, ◌⊎◌, inl, inr, List, [], ◌∷◌, ◌++◌, length, take, drop, get_or, refl, sym, ◌∙◌, ap, subst, arith, append_assoc, length-append, take-append-drop}
+use Rattle.std.proofs.lemmas.List.{append-nil, length-take, length-take-le, length-drop, get_or-take, get_or-drop, get_or_past}
 use Rattle.std.proofs.lemmas.Bool.{cases_eq, cases_lt}
 use Rattle.std.proofs.lemmas.Nat.{be_bytes_4}
 use Rattle.std.specs.Int.{from_be_bytes, to_be_bytes, w32}
-use Rattle.journal_core.specs.declared.region.Region.{Region}
-use Rattle.journal_core.specs.Frames.{frame, frames, IsBody, AreBodies}
-use Rattle.journal_core.specs.Region.{region_size, half_at, selected, HalfStands, HalfOverruns}
-use Rattle.journal_core.specs.Kept.{IsWithin}
-use Rattle.journal_core.specs.Laws.{IsImage, StandsForOne, StandsForNoList, OneList}
+use Rattle.journal_core.specs.Frames.{frame, frames, AreBodies}
+use Rattle.journal_core.specs.Region.{half_at, selected, HalfStands, HalfOverruns}
+use Rattle.journal_core.specs.Laws.{IsImage, OneList}
 use Rattle.journal_core.proofs.Unframing.{opening, length-frame}
-use Rattle.journal_core.proofs.Fronts.{OverrunBy, front_overruns, follows, length-frames}
+use Rattle.journal_core.proofs.Fronts.{front_overruns, follows, length-frames}
 use Rattle.journal_core.proofs.Scanned.{sizes-more, frames-more}
 use Rattle.journal_core.proofs.Scan.{half_inside}
 

@@ -1,10 +1,9 @@
 -- Framed bodies that begin the same bytes begin alike, so a half stands for one list.
-use Rattle.std.proofs.Common.{◌≡◌, ◌≢◌, ℕ, ◌+◌, ◌<◌, ◌≤◌, ◌^◌, List, [], ◌∷◌, ◌++◌, length, take, drop, refl, sym, ◌∙◌, ap, subst, arith, append_assoc, length-append}
-use Rattle.std.proofs.lemmas.List.{take_at, drop_at, append-nil}
+use Rattle.std.proofs.Common.{◌≡◌, ◌≢◌, ℕ, ◌<◌, ◌^◌, List, [], ◌∷◌, ◌++◌, length, take, drop, refl, sym, ◌∙◌, ap}
+use Rattle.std.proofs.lemmas.List.{take_at, drop_at}
 use Rattle.std.proofs.lemmas.Nat.{from_be_bytes-to_be_bytes_4}
-use Rattle.std.specs.Int.{to_be_bytes, from_be_bytes, w32}
-use Rattle.journal_core.specs.Frames.{frame, frames, IsBody, AreBodies}
-use Rattle.journal_core.specs.Region.{HalfStands}
+use Rattle.std.specs.Int.{from_be_bytes, w32}
+use Rattle.journal_core.specs.Frames.{frames, IsBody, AreBodies}
 use Rattle.journal_core.proofs.Unframing.{opening, length-opening, behind_frame, drop-opening}
 
 -- the others go on where the bodies end

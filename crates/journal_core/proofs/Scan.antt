@@ -1,8 +1,7 @@
 -- A look through a half, over a board.
-use Rattle.std.proofs.Common.{◌≡◌, ℕ, ◌+◌, ◌-◌, ◌*◌, ◌≤◌, Bool, true, false, List, length, refl, sym, ◌∙◌, ap, subst, arith, Result, Ok, Err}
-use Rattle.base_types.specs.Causes.{HasCause}
-use Rattle.board_core.specs.Contents.{Contents, Faults, Silent, Same}
-use Rattle.board_core.specs.Moments.{Elapses, Passes, NoMoment}
+use Rattle.std.proofs.Common.{◌≡◌, ℕ, ◌+◌, ◌-◌, ◌≤◌, Bool, true, false, List, length, refl, sym, ◌∙◌, ap, subst, arith, Result, Ok, Err}
+use Rattle.board_core.specs.Contents.{Contents, Faults, Same}
+use Rattle.board_core.specs.Moments.{Passes, NoMoment}
 use Rattle.board_core.specs.Calls.{DiskCause}
 use Rattle.board_core.proofs.Chaining.{stays, then_quiet}
 use Rattle.journal_core.specs.declared.region.Region.{Region}
@@ -10,7 +9,7 @@ use Rattle.journal_core.specs.declared.mount.Gate.TheVariants as gates
 use Rattle.journal_core.specs.declared.fault.JournalFault.{JournalFault}
 use Rattle.journal_core.specs.declared.fault.JournalFault.TheVariants as mount
 use Rattle.journal_core.specs.Region.{region_size, half_at, selected, HalfStands}
-use Rattle.journal_core.specs.Kept.{Kept, IsWithin, IsOf, Keeps}
+use Rattle.journal_core.specs.Kept.{Kept, IsWithin, IsOf}
 use Rattle.journal_core.specs.Scanning.{IsEmpty, GateIs, behind, TakesIn, Scans}
 use Rattle.journal_core.specs.Outcome.{DiskAlone, Mounts}
 use Rattle.journal_core.proofs.Scanned.{Scanned, begins, started, taken, closed, overrun}

@@ -1,10 +1,6 @@
 -- A half is looked through from its first gate on.
-use Rattle.std.proofs.Common.{◌≡◌, ◌≢◌, ℕ, zero, suc, ◌+◌, ◌-◌, ◌<◌, ◌≤◌, ◌^◌, ◌⊎◌, inl, inr, Bool, List, [], ◌∷◌, ◌++◌, length, take, drop, get_or, refl, sym, ◌∙◌, ap, subst, arith, append_assoc, length-append, take-append-drop}
-use Rattle.std.proofs.lemmas.List.{take_at, drop_at, flat_map_more, length-take-le, length-drop}
-use Rattle.std.proofs.lemmas.Grind.{flat_map-append}
-use Rattle.std.specs.Int.{from_be_bytes, to_be_bytes, w32}
-use Rattle.std.specs.List.{AllByRecursion}
-use Rattle.std.proofs.lemmas.Nat.{from_be_bytes-to_be_bytes_4}
+use Rattle.std.proofs.Common.{◌≡◌, ℕ, ◌+◌, ◌-◌, ◌<◌, ◌≤◌, ◌^◌, Bool, List, [], ◌∷◌, ◌++◌, length, take, drop, get_or, refl, sym, ◌∙◌, ap, subst, arith, append_assoc, length-append, take-append-drop}
+use Rattle.std.proofs.lemmas.List.{drop_at, flat_map_more, length-take-le, length-drop}
 use Rattle.journal_core.specs.declared.place.Place.{Place}
 use Rattle.journal_core.specs.declared.region.Region.{Region}
 use Rattle.journal_core.specs.declared.mount.Gate.TheVariants as gates
@@ -13,7 +9,7 @@ use Rattle.journal_core.specs.Place.{places_from}
 use Rattle.journal_core.specs.Region.{half_at, HalfStands}
 use Rattle.journal_core.specs.Kept.{Kept, IsOf, Keeps}
 use Rattle.journal_core.specs.Scanning.{IsEmpty, GateIs, behind, TakesIn}
-use Rattle.journal_core.proofs.Unframing.{opening, length-opening, length-frame, behind_frame, drop-opening}
+use Rattle.journal_core.proofs.Unframing.{opening, length-frame}
 use Rattle.journal_core.proofs.Fronts.{OverrunBy, front_overruns}
 
 -- where the half that counts begins

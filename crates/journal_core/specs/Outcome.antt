@@ -1,6 +1,5 @@
 -- What the calls of a journal answer and leave.
-use Rattle.std.specs.Prelude.{◌≡◌, ℕ, ◌+◌, ◌≤◌, List, length, Result, Ok, Err}
-use Rattle.base_types.specs.Causes.{Rose}
+use Rattle.std.specs.Prelude.{◌≡◌, ℕ, ◌+◌, ◌≤◌, List, Result, Ok, Err}
 use Rattle.board_core.specs.Contents.{Contents, Faults, Silent}
 use Rattle.journal_core.specs.declared.fault.JournalFault.{JournalFault}
 use Rattle.journal_core.specs.declared.fault.JournalFault.TheVariants as mount

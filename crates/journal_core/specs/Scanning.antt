@@ -1,13 +1,11 @@
 -- How a half is looked through, gate by gate.
-use Rattle.std.specs.Prelude.{◌≡◌, ◌≢◌, ℕ, ◌+◌, ◌^◌, ◌<◌, ◌≤◌, ◌⊎◌, List, [], ◌∷◌, ◌++◌, length, take, drop, slice_index, Result, Ok, Err}
+use Rattle.std.specs.Prelude.{◌≡◌, ◌≢◌, ℕ, ◌+◌, ◌^◌, ◌<◌, ◌≤◌, ◌⊎◌, List, [], ◌∷◌, ◌++◌, take, drop, slice_index, Result, Ok, Err}
 use Rattle.std.specs.Int.{from_be_bytes, to_be_bytes, w32}
 use Rattle.journal_core.specs.declared.fault.JournalFault.{JournalFault}
 use Rattle.journal_core.specs.declared.fault.JournalFault.TheVariants as mount
 use Rattle.journal_core.specs.declared.mount.Gate.{Gate}
 use Rattle.journal_core.specs.declared.mount.Gate.TheVariants as gates
-use Rattle.journal_core.specs.Frames.{frames}
 use Rattle.journal_core.specs.Region.{half_at, HalfStands}
-use Rattle.journal_core.specs.Place.{places_from}
 use Rattle.journal_core.specs.Kept.{Kept, IsOf, Keeps}
 
 -- nothing is taken in yet

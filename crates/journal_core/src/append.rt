@@ -8,7 +8,7 @@ ghost use Rattle.journal_core.specs.Kept.{IsWithin, Fits};
 ghost use Rattle.journal_core.specs.Outcome.{DiskAlone, Stores};
 
 use crate::fault::AppendFault;
-use crate::framed::{CLOSED, Framed, OPEN};
+use crate::framed::{Framed, OPEN};
 use crate::journal::Journal;
 use board_core::{Board, write_gated};
 

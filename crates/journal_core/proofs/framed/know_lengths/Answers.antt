@@ -1,4 +1,4 @@
-use Rattle.std.proofs.Common.{ℕ, arith}
+use Rattle.std.proofs.Common.{arith}
 use Rattle.journal_core.proofs.framed.know_lengths.Goals as goal
 
 pub returns : goal.returns

@@ -1,4 +1,4 @@
-use Rattle.std.proofs.Common.{◌≡◌, ◌∙◌, ◌++◌, ◌∷◌, [], ◌-◌, List, ℕ, ap, arith, length, take, drop}
+use Rattle.std.proofs.Common.{◌≡◌, ◌∙◌, ◌++◌, ◌∷◌, [], ◌-◌, List, ℕ, ap, arith, length, drop}
 use Rattle.std.proofs.lemmas.List.{take_all, length-drop}
 use Rattle.journal_core.specs.Frames.{frames}
 use Rattle.journal_core.proofs.Unframing.{first_gate}

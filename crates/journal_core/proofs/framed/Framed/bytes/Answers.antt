@@ -1,4 +1,4 @@
-use Rattle.std.proofs.Common.{◌≡◌, ◌∙◌, List, ℕ, ap, sym, length, map}
+use Rattle.std.proofs.Common.{◌∙◌, List, ℕ, ap, sym, length, map}
 use Rattle.journal_core.proofs.Unframing.{are_bodies}
 use Rattle.journal_core.proofs.framed.Framed.bytes.Goals as goal
 

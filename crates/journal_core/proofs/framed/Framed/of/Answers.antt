@@ -1,4 +1,4 @@
-use Rattle.std.proofs.Common.{◌≡◌, ◌∙◌, ◌++◌, ◌∷◌, [], List, ℕ, ap, arith, length, map, take}
+use Rattle.std.proofs.Common.{◌≡◌, ◌∙◌, List, ℕ, ap, arith, length, map, take}
 use Rattle.std.proofs.lemmas.List.{take_all}
 use Rattle.journal_core.specs.Frames.{frames}
 use Rattle.journal_core.proofs.Unframing.{closed, bodies_come_back}

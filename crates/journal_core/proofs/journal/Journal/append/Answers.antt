@@ -1,5 +1,4 @@
-use Rattle.std.proofs.Common.{◌≡◌, ◌≤◌, ◌+◌, ◌*◌, ◌++◌, ◌∷◌, [], List, ℕ, length, ap, arith}
-use Rattle.std.proofs.lemmas.List.{length-append}
+use Rattle.std.proofs.Common.{◌≡◌, ◌≤◌, ◌+◌, length, ap, arith}
 use Rattle.board_core.proofs.Chaining.{widened}
 use Rattle.journal_core.specs.Kept.{IsWithin}
 use Rattle.journal_core.proofs.Unframing.{length-one}

@@ -1,4 +1,4 @@
-use Rattle.std.proofs.Common.{◌≡◌, refl}
+use Rattle.std.proofs.Common.{refl}
 use Rattle.journal_core.proofs.Scan.{mounted}
 use Rattle.journal_core.proofs.journal.Journal.mount.Goals as goal
 

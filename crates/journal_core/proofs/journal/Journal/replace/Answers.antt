@@ -1,4 +1,4 @@
-use Rattle.std.proofs.Common.{◌≡◌, ◌≤◌, ◌+◌, ◌*◌, ◌∙◌, ◌∷◌, [], not, List, ℕ, length, subst, ap, arith}
+use Rattle.std.proofs.Common.{◌≡◌, ◌≤◌, ◌∙◌, ◌∷◌, [], not, ℕ, length, subst, ap, arith}
 use Rattle.board_core.specs.Gates.{WithinGated}
 use Rattle.board_core.specs.Moments.{written}
 use Rattle.board_core.proofs.Chaining.{widened}

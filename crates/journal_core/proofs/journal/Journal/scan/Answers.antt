@@ -1,4 +1,4 @@
-use Rattle.std.proofs.Common.{◌≡◌, ◌-◌, List, ℕ, subst}
+use Rattle.std.proofs.Common.{◌-◌, subst}
 use Rattle.journal_core.specs.declared.mount.Gate.{Gate}
 use Rattle.journal_core.specs.Scanning.{GateIs, FitsIn, behind}
 use Rattle.journal_core.proofs.Scan.{going_started, going_on, going_closed, going_overrun, disk_alone}
