@@ -1,5 +1,5 @@
 -- The moments of several calls, one behind the other.
-use Rattle.std.proofs.Common.{◌≡◌, ◌≤◌, ◌⊎◌, ℕ, List, sym, subst, inl, inr, arith}
+use Rattle.std.proofs.Common.{◌≡◌, ℕ, List, subst, inl, inr, arith}
 use Rattle.board_core.specs.Contents.{Contents}
 use Rattle.board_core.specs.Moments.{SameOutside, SendsSome, Elapses, NoMoment, WithinSend, WithinPut, OnlyWithin, Settled}
 

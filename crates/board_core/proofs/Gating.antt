@@ -1,9 +1,9 @@
 -- The moments of bytes written behind a gate.
-use Rattle.std.proofs.Common.{◌≡◌, ◌+◌, ◌≤◌, ◌<◌, ◌⊎◌, ◌==◌, Bool, true, false, cond, ℕ, List, [], ◌∷◌, ◌++◌, length, take, drop, get_or, refl, sym, ◌∙◌, ap, subst, inl, inr, arith, Option, Some, None, ◌≢◌}
+use Rattle.std.proofs.Common.{◌≡◌, ◌+◌, ◌≤◌, ◌<◌, ℕ, List, length, take, drop, get_or, sym, ◌∙◌, ap, subst, inl, inr, arith, Some, None, ◌≢◌}
 use Rattle.std.proofs.lemmas.Bool.{cases_eq}
 use Rattle.std.proofs.lemmas.Bool.Decides.{eqb_tells}
 use Rattle.board_core.specs.Contents.{Contents}
-use Rattle.board_core.specs.Moments.{SameOutside, Elapses, WithinPut, OldOrNew, OnlyWithin, Settled, written}
+use Rattle.board_core.specs.Moments.{SameOutside, Elapses, WithinPut, OldOrNew, Settled, written}
 use Rattle.board_core.specs.Gates.{shown, WithinGated}
 use Rattle.board_core.proofs.Chaining.{stays, then_within, put_moments}
 use Rattle.board_core.proofs.Ranges.{before_same, behind_same, written_there}
@@ -24,13 +24,13 @@ module _ (at : ℕ) (bytes : List ℕ) (gate : ℕ) (old : Contents) where
   gate_moments mid settled sent_is bytes_are first moments = then_within first (put_moments mid settled moments)
       (λ sent image w. (w.0 ∙ sent_is, inr (subst (λ (l : List ℕ). SameOutside gate 1 l image) bytes_are w.1)))
 
-shown_open : (gate byte at n : ℕ) (image : List ℕ) → get_or image gate 0 ≡ byte → shown gate byte at n image ≡ Some (take n (drop at image))
+pub shown_open : (gate byte at n : ℕ) (image : List ℕ) → get_or image gate 0 ≡ byte → shown gate byte at n image ≡ Some (take n (drop at image))
 shown_open gate byte at n image open_ = elim (eqb_tells (get_or image gate 0) byte) [
   | inl is ↦ rw is.0
   | inr not ↦ absurd (not.1 open_)
 ]
 
-shown_shut : (gate byte at n : ℕ) (image : List ℕ) → get_or image gate 0 ≢ byte → shown gate byte at n image ≡ None
+pub shown_shut : (gate byte at n : ℕ) (image : List ℕ) → get_or image gate 0 ≢ byte → shown gate byte at n image ≡ None
 shown_shut gate byte at n image shut = elim (eqb_tells (get_or image gate 0) byte) [
   | inl is ↦ absurd (shut is.1)
   | inr not ↦ rw not.0

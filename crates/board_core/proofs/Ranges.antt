@@ -1,6 +1,6 @@
 -- Laws of fronts and of ranges of bytes.
-use Rattle.std.proofs.Common.{◌≡◌, ◌+◌, ◌-◌, ◌≤◌, ◌<◌, ℕ, List, [], ◌∷◌, ◌++◌, length, take, drop, get_or, refl, sym, ◌∙◌, ap, subst, arith, append_assoc}
-use Rattle.std.proofs.lemmas.List.{append-nil, take-take, drop-drop, take_at, get_or-take}
+use Rattle.std.proofs.Common.{◌≡◌, ◌+◌, ◌-◌, ◌≤◌, ◌<◌, ℕ, List, [], ◌++◌, length, take, drop, get_or, refl, sym, ◌∙◌, ap, subst, arith, append_assoc}
+use Rattle.std.proofs.lemmas.List.{append-nil, take-take, drop-drop, get_or-take}
 use Rattle.std.proofs.lemmas.Grind.{common_steps}
 use Rattle.board_core.specs.Moments.{Begins, SameOutside, written}
 use Rattle.board_core.specs.ReplayLaws.{written_torn}

@@ -1,14 +1,14 @@
 -- What a stop leaves is one of the moments of its call.
-use Rattle.std.proofs.Common.{◌≡◌, ◌+◌, ◌-◌, ◌≤◌, ◌<◌, ◌/◌, ◌⊎◌, ℕ, zero, suc, Bool, true, false, List, [], ◌∷◌, ◌++◌, length, take, drop, get_or, refl, sym, ◌∙◌, ap, subst, arith, inl, inr, length-append, take-append-drop, append_assoc, Some, Option, Result, Ok, Err, IfOk}
-use Rattle.std.specs.Prelude.{fold, replicate, slice_get, ◌&&◌, ◌||◌}
-use Rattle.std.specs.List.{flat_map, list_any, list_all}
+use Rattle.std.proofs.Common.{◌≡◌, ◌+◌, ◌-◌, ◌≤◌, ◌<◌, ◌/◌, ℕ, zero, suc, Bool, true, false, List, [], ◌∷◌, ◌++◌, length, take, drop, get_or, refl, sym, ◌∙◌, ap, subst, arith, inl, inr, take-append-drop, append_assoc, Some, Result, Ok, Err, IfOk}
+use Rattle.std.specs.Prelude.{fold, replicate, slice_get, ◌||◌}
+use Rattle.std.specs.List.{flat_map, list_any}
 use Rattle.std.proofs.lemmas.List.{append-nil, length-replicate, take_more, take_rest}
 use Rattle.std.proofs.lemmas.List.Sums.{fold-append}
 use Rattle.std.proofs.lemmas.List.Folds.{list_all-append}
 use Rattle.std.proofs.Math.Seq.{drop-cons}
-use Rattle.board_core.specs.Moments.{Begins, SameOutside, SendsSome}
-use Rattle.board_core.specs.Replay.{State, fresh, done, step, replay, Between, Inside, LeftFrom, fits, all_fit}
-use Rattle.board_core.specs.ReplayLaws.{Sound, sound, sound_fresh, written_torn, done_short, torn_same, now_left, le_of, and_true}
+use Rattle.board_core.specs.Moments.{Begins, SameOutside}
+use Rattle.board_core.specs.Replay.{State, fresh, done, step, replay, Inside, LeftFrom, fits, all_fit}
+use Rattle.board_core.specs.ReplayLaws.{sound, sound_fresh, written_torn, done_short, torn_same, now_left, le_of, and_true}
 use Rattle.board_core.specs.Stops.{left_in, left_in_put, sent_by, begun_by, let_out, is_good_sync, EndsSynced, StopLeaves}
 use Rattle.board_core.specs.History.{state_of, left_by}
 use Rattle.board_core.specs.MemoryLaws.{sound_here}

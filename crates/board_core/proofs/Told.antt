@@ -1,9 +1,9 @@
 -- What a board in memory tells behind one more call.
-use Rattle.std.proofs.Common.{◌≡◌, ◌+◌, ◌-◌, ◌≤◌, ◌/◌, ◌<◌, min, ◌⊎◌, ℕ, Bool, true, false, List, [], ◌∷◌, ◌++◌, length, take, drop, refl, sym, ◌∙◌, ap, subst, arith, inl, inr, Result, Ok, Err, OnOk, OnErr, length-append, take-append-drop}
+use Rattle.std.proofs.Common.{◌≡◌, ◌+◌, ◌≤◌, ◌/◌, ◌<◌, min, ◌⊎◌, ℕ, Bool, true, false, List, [], ◌∷◌, ◌++◌, length, take, drop, refl, sym, ◌∙◌, ap, subst, arith, inl, inr, Result, Ok, Err, OnOk, length-append, take-append-drop}
 use Rattle.std.proofs.lemmas.List.{append-nil, drop-drop}
-use Rattle.board_core.specs.Contents.{Contents, Same, Silent}
-use Rattle.board_core.specs.Moments.{Begins, SameOutside, Elapses, SendsSome, NoMoment, WithinSend, WithinPut, written}
-use Rattle.board_core.specs.Calls.{Sends, Reads, Gives, GivesNone, Loads, Puts, Syncs}
+use Rattle.board_core.specs.Contents.{Contents}
+use Rattle.board_core.specs.Moments.{Begins, Elapses, NoMoment, WithinSend, WithinPut, written}
+use Rattle.board_core.specs.Calls.{Sends, Reads, Loads, Puts, Syncs}
 use Rattle.board_core.specs.Replay.{State, fresh, done, step, replay, Between, Inside, LeftFrom}
 use Rattle.board_core.specs.ReplayLaws.{replay-push, elapsed, now_left, written_torn, done_short}
 use Rattle.board_core.specs.History.{state_of, told_by, left_by, Noted}

@@ -1,5 +1,4 @@
 -- The counts of faults that a board keeps, as it tells them.
-use Rattle.std.specs.Prelude.{ℕ}
 use Rattle.board_core.specs.Contents.{Faults}
 use Rattle.board_core.specs.declared.fault_counts.FaultCounts.{FaultCounts}
 

@@ -1,5 +1,5 @@
 -- Bytes that count only where the byte at a gate before them is a certain one.
-use Rattle.std.specs.Prelude.{◌≡◌, ◌⊎◌, ◌==◌, [], ◌∷◌, List, ℕ, Option, Some, None, length, take, drop, slice_index, if◌then◌else◌}
+use Rattle.std.specs.Prelude.{◌≡◌, ◌⊎◌, ◌==◌, List, ℕ, Option, Some, None, length, take, drop, slice_index, if◌then◌else◌}
 use Rattle.board_core.specs.Contents.{Contents}
 use Rattle.board_core.specs.Moments.{SameOutside, written}
 

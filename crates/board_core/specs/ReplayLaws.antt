@@ -1,11 +1,11 @@
 -- The laws of a replayed list of calls.
-use Rattle.std.specs.Prelude.{◌≡◌, ◌+◌, ◌-◌, ◌/◌, ◌≤◌, ◌⊎◌, ◌++◌, List, [], ◌∷◌, ℕ, zero, suc, Bool, true, false, IsTrue, length, take, drop, leb, ◌&&◌}
-use Rattle.std.proofs.Common.{refl, sym, ◌∙◌, ap, subst, inl, inr, arith, length-append, length-drop, length-take, append_assoc}
+use Rattle.std.specs.Prelude.{◌≡◌, ◌+◌, ◌-◌, ◌≤◌, ◌⊎◌, ◌++◌, List, [], ◌∷◌, ℕ, zero, suc, Bool, true, false, IsTrue, length, take, drop, leb, ◌&&◌}
+use Rattle.std.proofs.Common.{refl, sym, ◌∙◌, ap, inl, inr, arith, length-append, length-take}
 use Rattle.std.proofs.lemmas.Bool.Decides.{nat_tests}
 use Rattle.std.proofs.Math.Seq.{drop-append-add}
-use Rattle.std.proofs.lemmas.List.{drop-drop, append-nil, take_at, take-append-le}
+use Rattle.std.proofs.lemmas.List.{drop-drop, append-nil}
 use Rattle.std.proofs.lemmas.Grind.{common_steps}
-use Rattle.board_core.specs.Moments.{Begins, SameOutside, Elapses, SendsSome, written}
+use Rattle.board_core.specs.Moments.{SameOutside, Elapses, written}
 use Rattle.board_core.specs.Replay.{State, fresh, done, step, replay, Between, Inside, LeftFrom, fits, all_fit}
 use Rattle.board_core.specs.declared.call.Call.{Call}
 use Rattle.board_core.specs.declared.call.Call.TheVariants.{Read, Send, Load, Put, Sync}

@@ -1,5 +1,6 @@
 // Standard input, standard output and a file.
-ghost use Rattle.std.specs.Prelude.{◌≡◌, ◌+◌, ◌<◌, ◌≤◌, [], ℕ, List, length, false, IfOk};
+ghost use Rattle.std.specs.Prelude.{◌≡◌, ◌+◌, ◌<◌, ◌≤◌, [], ℕ, List, length, false, IfOk, IsErr, IsNone};
+ghost use Rattle.board_core.specs.Calls.{DiskCause};
 ghost use Rattle.board_core.specs.Faulted.{no_faults, faults_in};
 
 use crate::board::Board;
@@ -32,8 +33,6 @@ fn open<R: Files>(rt: &R, name: &str) -> Option<(R::File, u64)> {
 }
 
 impl<'a, R: Input + Print + Files> FileBoard<'a, R> {
-    ghost use Rattle.std.specs.Prelude.{IsNone};
-
     /// The board whose image is the named file, with the length that it has now.
     ///
     /// Where the file cannot be opened for reading and writing, each disk call fails and `size()` is 0.
@@ -110,7 +109,12 @@ impl<'a, R: Input + Print + Files> Board for FileBoard<'a, R> {
         self.size
     }
 
-    fn load(&mut self, at: u64, buf: &mut [u8]) -> Result<(), Failed> {
+    fn load(&mut self, at: u64, buf: &mut [u8]) -> Result<(), Failed>
+        requires { at + length buf.old ≤ self.old.size }
+        ensures cause { DiskCause (faults_in self.old.counts) (faults_in self.new.counts) result }
+        ensures extent { self.new.size ≡ self.old.size }
+        ensures unopened { IsNone self.old.file → IsErr result }
+    {
         if let Some(file) = &mut self.file {
             if let Ok(()) = load_from(file, at, buf) {
                 return Ok(());
@@ -119,7 +123,12 @@ impl<'a, R: Input + Print + Files> Board for FileBoard<'a, R> {
         Err(self.counts.disk_failed())
     }
 
-    fn put(&mut self, at: u64, bytes: &[u8]) -> Result<(), Failed> {
+    fn put(&mut self, at: u64, bytes: &[u8]) -> Result<(), Failed>
+        requires { at + length bytes.now ≤ self.old.size }
+        ensures cause { DiskCause (faults_in self.old.counts) (faults_in self.new.counts) result }
+        ensures extent { self.new.size ≡ self.old.size }
+        ensures unopened { IsNone self.old.file → IsErr result }
+    {
         if let Some(file) = &mut self.file {
             if let Ok(()) = put_into(file, at, bytes) {
                 return Ok(());
@@ -128,7 +137,11 @@ impl<'a, R: Input + Print + Files> Board for FileBoard<'a, R> {
         Err(self.counts.disk_failed())
     }
 
-    fn sync(&mut self) -> Result<(), Failed> {
+    fn sync(&mut self) -> Result<(), Failed>
+        ensures cause { DiskCause (faults_in self.old.counts) (faults_in self.new.counts) result }
+        ensures extent { self.new.size ≡ self.old.size }
+        ensures unopened { IsNone self.old.file → IsErr result }
+    {
         if let Some(file) = &self.file {
             if let Ok(()) = file.sync_all() {
                 return Ok(());

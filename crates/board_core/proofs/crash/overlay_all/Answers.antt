@@ -1,5 +1,5 @@
-use Rattle.std.proofs.Common.{◌≡◌, ◌∙◌, ap, sym, subst, length, take, fold, arith, ◌++◌, ◌∷◌, [], true, List, ℕ}
-use Rattle.std.proofs.lemmas.List.{take_more, take_all}
+use Rattle.std.proofs.Common.{◌≡◌, ◌∙◌, ap, sym, subst, length, take, fold, ◌++◌, ◌∷◌, [], true, List, ℕ}
+use Rattle.std.proofs.lemmas.List.{take_more}
 use Rattle.std.proofs.lemmas.List.Sums.{fold-append}
 use Rattle.board_core.specs.Replay.{fits}
 use Rattle.board_core.specs.Stops.{left_in}

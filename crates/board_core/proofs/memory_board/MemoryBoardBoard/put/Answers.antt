@@ -1,4 +1,4 @@
-use Rattle.std.proofs.Common.{drop, arith, length, ◌+◌, ◌≤◌}
+use Rattle.std.proofs.Common.{drop, arith}
 use Rattle.board_core.proofs.Told.{put_told, put_moments, long}
 use Rattle.board_core.proofs.memory_board.MemoryBoardBoard.put.Goals as goal
 

@@ -1,4 +1,4 @@
-use Rattle.std.proofs.Common.{◌≡◌, ◌∙◌, List, ℕ, ap, drop, take, length, min}
+use Rattle.std.proofs.Common.{◌∙◌, List, ℕ, ap, drop, take, length, min}
 use Rattle.board_core.proofs.Told.{read_ok, read_err, none_left, read_moments}
 use Rattle.board_core.proofs.memory_board.MemoryBoardBoard.read.Goals as goal
 

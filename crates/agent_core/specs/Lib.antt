@@ -1,0 +1,5 @@
+pub mod Frames
+pub mod Refusals
+pub mod Events
+pub mod Answers
+pub mod Replies

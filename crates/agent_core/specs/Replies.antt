@@ -1,0 +1,6 @@
+-- A reply of the program as a frame.
+use Rattle.agent_core.specs.Frames.{Frame}
+use Rattle.agent_core.specs.declared.reply.Reply.{Reply}
+
+abbrev pub frame_of : Reply → Frame
+frame_of reply = record { kind = reply.kind; body = reply.body }

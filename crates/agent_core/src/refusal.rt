@@ -1,0 +1,23 @@
+ghost use Rattle.std.specs.Prelude.{◌≡◌};
+ghost use Rattle.agent_core.specs.Refusals.{number_of};
+
+/// Why an event is refused.
+#[derive(Clone, Copy, Debug, Eq, PartialEq)]
+pub enum Refusal {
+    /// The event is no message.
+    Kind,
+    /// The message is no question.
+    NotMessage,
+}
+
+impl Refusal {
+    /// The number that the refusal is told by: 1 for `Kind`, 4 for `NotMessage`.
+    pub fn number(self) -> u8
+        ensures { result ≡ number_of self }
+    {
+        match self {
+            Refusal::Kind => 1,
+            Refusal::NotMessage => 4,
+        }
+    }
+}

@@ -1,0 +1,5 @@
+pub mod Pieces
+pub mod Looks
+pub mod OneReading
+pub mod Looping
+pub mod Exactly

@@ -1,0 +1,89 @@
+ghost use Rattle.std.specs.Prelude.{◌≡◌, ◌≢◌, ◌≤◌, ◌↔◌, List};
+ghost use Rattle.base_types.specs.Causes.{Rose};
+ghost use Rattle.agent_core.specs.Frames.{Frame};
+ghost use Rattle.agent_run.specs.Reading.{End, Events};
+ghost use Rattle.agent_run.specs.Statuses.{status_of};
+ghost use Rattle.agent_run.specs.Outcome.{Ran};
+ghost use Rattle.agent_run.specs.Words.{IsRun};
+
+use crate::frame::{Next, next_frame};
+use crate::status::Status;
+use crate::turn::{Turn, answer};
+use crate::words::is_run;
+use agent_core::Agent;
+use base_types::{FRAME_IN_LIMIT, INPUT_LIMIT};
+use board_core::Board;
+use std::alloc::Global;
+use std::thread::Threads;
+
+/// Runs the agent: the words of the command line, and a board for input and output.
+///
+/// The words are looked at first: `Usage` exactly where they are not `run` alone, and the board is
+/// untouched then. Otherwise each frame of the input is answered, one after the other, and the first
+/// status that arises is the answer:
+///
+/// - `Done`, `CutFrame`, `LongFrame`, `InputSpent` exactly by the end of the input where nothing
+///   failed: it ended between two frames, inside a frame, a frame says a length above 2^21 bytes, or
+///   2^40 bytes were taken and another is needed. Every frame before that end is answered.
+/// - `ReadFault` only where the count of failed reads rose in this call. Every frame taken is answered.
+/// - `SendFault` only where the count of failed sends rose in this call. Every frame taken but the
+///   last is answered, and a front of the last answer may be sent.
+/// - `NoMemory` before a frame was taken whole, where every frame taken is answered, or in the answer
+///   to the last frame, of which nothing is sent then.
+pub fn run_agent<R: Threads + Sync, B: Board>(
+    _rt: &R,
+    alloc: Global,
+    words: &[String],
+    board: &mut B,
+) -> Status
+    ensures usage { result ≡ Status.Usage ↔ (IsRun words.now → ⊥) }
+    ensures untouched { result ≡ Status.Usage → board.new ≡ board.old }
+
+    // What was taken and what was sent, by the status.
+    ensures ran { B.told → IsRun words.now → Ran FRAME_IN_LIMIT INPUT_LIMIT result (B.now board.old) (B.now board.new) }
+
+    // Where nothing failed, the end of the input decides.
+    ensures exactly { B.told → IsRun words.now →
+        (Rose (B.faults board.old).read (B.faults board.new).read → ⊥) →
+        (Rose (B.faults board.old).send (B.faults board.new).send → ⊥) →
+        result ≢ Status.NoMemory →
+        (frames : List Frame) (end : End) → Events FRAME_IN_LIMIT INPUT_LIMIT (B.now board.old).rest frames end →
+        result ≡ status_of end }
+    ensures read_fault { result ≡ Status.ReadFault → Rose (B.faults board.old).read (B.faults board.new).read }
+    ensures send_fault { result ≡ Status.SendFault → Rose (B.faults board.old).send (B.faults board.new).send }
+    ensures disk { (B.faults board.new).disk ≡ (B.faults board.old).disk }
+    ensures extent { B.extent board.new ≡ B.extent board.old }
+{
+    if !is_run(words) {
+        return Status::Usage;
+    }
+    run_frames(alloc, board)
+}
+
+// Answers each frame of the input.
+fn run_frames<B: Board>(alloc: Global, board: &mut B) -> Status
+    ensures ran { B.told → Ran FRAME_IN_LIMIT INPUT_LIMIT result (B.now board.old) (B.now board.new) }
+    ensures words { result ≢ Status.Usage }
+    ensures read_fault { result ≡ Status.ReadFault → Rose (B.faults board.old).read (B.faults board.new).read }
+    ensures send_fault { result ≡ Status.SendFault → Rose (B.faults board.old).send (B.faults board.new).send }
+    ensures disk { (B.faults board.new).disk ≡ (B.faults board.old).disk }
+    ensures extent { B.extent board.new ≡ B.extent board.old }
+{
+    let mut agent = Agent::new();
+    let mut taken = 0;
+    loop {
+        match next_frame(alloc, board, &mut taken) {
+            Next::Got { kind, body } => match answer(alloc, &mut agent, board, kind, body) {
+                Turn::Sent => {}
+                Turn::SendFault => return Status::SendFault,
+                Turn::NoMemory => return Status::NoMemory,
+            },
+            Next::Whole => return Status::Done,
+            Next::Long => return Status::LongFrame,
+            Next::Cut => return Status::CutFrame,
+            Next::Spent => return Status::InputSpent,
+            Next::ReadFault => return Status::ReadFault,
+            Next::NoMemory => return Status::NoMemory,
+        }
+    }
+}

@@ -1,0 +1,41 @@
+ghost use Rattle.std.specs.Prelude.{◌≡◌};
+ghost use Rattle.agent_run.specs.Statuses.{number_of};
+
+/// How a run ended.
+#[derive(Clone, Copy, Debug, Eq, PartialEq)]
+pub enum Status {
+    /// The input ended between two frames, and each frame is answered.
+    Done,
+    /// The words are not `run` alone.
+    Usage,
+    /// A read failed.
+    ReadFault,
+    /// A send failed.
+    SendFault,
+    /// The input ended inside a frame.
+    CutFrame,
+    /// A frame says a length above the limit.
+    LongFrame,
+    /// No memory was left.
+    NoMemory,
+    /// As many bytes were taken as a run may take, and one more is needed.
+    InputSpent,
+}
+
+impl Status {
+    /// The number that a program ends with: 0, 2, 4, 5, 7, 8, 9 and 10, in the order of the variants.
+    pub fn number(self) -> u8
+        ensures { result ≡ number_of self }
+    {
+        match self {
+            Status::Done => 0,
+            Status::Usage => 2,
+            Status::ReadFault => 4,
+            Status::SendFault => 5,
+            Status::CutFrame => 7,
+            Status::LongFrame => 8,
+            Status::NoMemory => 9,
+            Status::InputSpent => 10,
+        }
+    }
+}

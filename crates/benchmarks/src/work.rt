@@ -1,0 +1,125 @@
+ghost use Rattle.cbor_core.specs.Spelling.{IsProper};
+
+use cbor_core::{Item, decode_whole, encode, is_proper};
+use hss_verify::{HssPublic, hss_verify};
+use lms_core::chain;
+use sha2::{Digest, Sha256};
+use std::alloc::Global;
+
+/// What is done in each round.
+#[derive(Clone, Copy, Debug)]
+pub enum Work {
+    Decode,
+    Encode,
+    Verify,
+    Hash,
+    Chain,
+}
+
+impl Work {
+    /// The work of that name.
+    pub fn named(name: &str) -> Option<Work> {
+        match name {
+            "decode" => Some(Work::Decode),
+            "encode" => Some(Work::Encode),
+            "verify" => Some(Work::Verify),
+            "hash" => Some(Work::Hash),
+            "chain" => Some(Work::Chain),
+            _ => None,
+        }
+    }
+
+    /// In how many of the rounds the work had a good answer.
+    pub fn done(self, alloc: Global, bytes: &[u8], rounds: u64) -> u64 {
+        match self {
+            Work::Decode => decodes(alloc, bytes, rounds),
+            Work::Encode => encodes(alloc, bytes, rounds),
+            Work::Verify => verifies(bytes, rounds),
+            Work::Hash => hashes(bytes, rounds),
+            Work::Chain => chains(rounds),
+        }
+    }
+}
+
+fn decodes(alloc: Global, bytes: &[u8], rounds: u64) -> u64 {
+    let mut good: u64 = 0;
+    for _ in 0..rounds {
+        if decode_whole(alloc, bytes).is_ok() {
+            good = good.saturating_add(1);
+        }
+    }
+    good
+}
+
+fn encodes(alloc: Global, bytes: &[u8], rounds: u64) -> u64 {
+    let Ok(item) = decode_whole(alloc, bytes) else {
+        return 0;
+    };
+    let Ok(true) = is_proper(alloc, &item) else {
+        return 0;
+    };
+    encodes_item(alloc, &item, rounds)
+}
+
+fn encodes_item(alloc: Global, item: &Item, rounds: u64) -> u64
+    requires { IsProper item.now }
+{
+    let mut good: u64 = 0;
+    for _ in 0..rounds {
+        if encode(alloc, item).is_ok() {
+            good = good.saturating_add(1);
+        }
+    }
+    good
+}
+
+fn verifies(bytes: &[u8], rounds: u64) -> u64 {
+    let Some((key, message, signature)) = signed(bytes) else {
+        return 0;
+    };
+    let mut good: u64 = 0;
+    for _ in 0..rounds {
+        if hss_verify(&key, message, signature) {
+            good = good.saturating_add(1);
+        }
+    }
+    good
+}
+
+// A public key, a message behind its length, and a signature.
+fn signed(bytes: &[u8]) -> Option<(HssPublic, &[u8], &[u8])> {
+    if bytes.len() < 64 {
+        return None;
+    }
+    let (key, rest) = bytes.split_at(60);
+    let (length, rest) = rest.split_at(4);
+    let length = u32::from_be_bytes([length[0], length[1], length[2], length[3]]) as usize;
+    if rest.len() < length {
+        return None;
+    }
+    let (message, signature) = rest.split_at(length);
+    Some((HssPublic::read(key)?, message, signature))
+}
+
+fn hashes(bytes: &[u8], rounds: u64) -> u64 {
+    let mut good: u64 = 0;
+    for _ in 0..rounds {
+        let digest = Sha256::digest(bytes);
+        if digest != [0; 32] {
+            good = good.saturating_add(1);
+        }
+    }
+    good
+}
+
+fn chains(rounds: u64) -> u64 {
+    let mut good: u64 = 0;
+    let mut value = [0; 32];
+    for _ in 0..rounds {
+        value = chain(&[7; 16], 0, 0, 0, 255, &value);
+        if value != [0; 32] {
+            good = good.saturating_add(1);
+        }
+    }
+    good
+}

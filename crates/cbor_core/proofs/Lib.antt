@@ -1,0 +1,13 @@
+pub mod Spell
+pub mod Levels
+pub mod Written
+pub mod Depth
+pub mod Heads
+pub mod Items
+pub mod Again
+pub mod Inputs
+pub mod Parts
+pub mod KeyOrder
+pub mod Faults
+pub mod Refused
+pub mod Tables

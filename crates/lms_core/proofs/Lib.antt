@@ -1,0 +1,9 @@
+pub mod Rows
+pub mod Sums
+pub mod Inputs
+pub mod Steps
+pub mod Parts
+pub mod Hashes
+pub mod Ends
+pub mod Keys
+pub mod Signatures

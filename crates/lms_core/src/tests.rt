@@ -1,0 +1,189 @@
+//! Expected values come from a program of another language, written from RFC 8554.
+
+use super::*;
+use std::alloc::{AllocError, Global};
+use std::test::Fail;
+
+const STEP: [u8; 32] = [
+    0xa6, 0x99, 0xde, 0x8b, 0xdf, 0xc6, 0xb6, 0x01, 0xda, 0x01, 0xac, 0xd3, 0x19, 0xfe, 0x77, 0x0d,
+    0x1b, 0x51, 0xfb, 0x72, 0xcd, 0x28, 0x02, 0x7e, 0xfe, 0x2a, 0x95, 0x72, 0xb9, 0x3c, 0x89, 0x56,
+];
+
+const CHAIN: [u8; 32] = [
+    0x9e, 0x12, 0x0c, 0xb0, 0xeb, 0xd6, 0xe1, 0x20, 0xb0, 0x06, 0xb7, 0x17, 0x8b, 0xbf, 0x4f, 0xb6,
+    0x2d, 0x23, 0x8c, 0xbf, 0x8a, 0xf4, 0x65, 0xfa, 0x06, 0x27, 0xa6, 0x65, 0x1d, 0xa5, 0x69, 0x1e,
+];
+
+const LEAF: [u8; 32] = [
+    0x31, 0x02, 0x28, 0xfb, 0xee, 0xfe, 0x6c, 0x17, 0x27, 0xce, 0xc6, 0xbc, 0xa6, 0xfc, 0x84, 0x39,
+    0x2f, 0x52, 0x67, 0xf0, 0x69, 0x91, 0x3d, 0x0e, 0x68, 0x17, 0x27, 0x40, 0x44, 0xdb, 0xc6, 0x3a,
+];
+
+const INNER: [u8; 32] = [
+    0xaa, 0x61, 0xc1, 0x99, 0x8c, 0x21, 0x11, 0xc9, 0x66, 0x9f, 0x65, 0xc1, 0x96, 0xc0, 0x24, 0xc9,
+    0x12, 0xb2, 0xf4, 0xb7, 0x1b, 0xc3, 0x49, 0x0b, 0x02, 0xaf, 0x5c, 0x5e, 0x23, 0x38, 0xaa, 0x44,
+];
+
+const DIGEST: [u8; 32] = [
+    0xfe, 0xf4, 0xcb, 0x69, 0xc4, 0x55, 0x4b, 0x12, 0xe7, 0xf9, 0x51, 0xe0, 0x11, 0x91, 0xb1, 0x2c,
+    0xea, 0x2b, 0x76, 0x82, 0xa7, 0xa0, 0x22, 0xb7, 0xf5, 0x80, 0xba, 0xb3, 0x4e, 0x34, 0x60, 0x42,
+];
+
+const ROOT_5: [u8; 32] = [
+    0xb5, 0x3c, 0x29, 0xa1, 0xdd, 0xc2, 0xe0, 0xc9, 0xb4, 0x14, 0x45, 0xac, 0x74, 0x7e, 0xc8, 0xe8,
+    0xa8, 0x13, 0xc2, 0xce, 0x9a, 0x05, 0x52, 0xd4, 0x9d, 0xf5, 0x6c, 0x72, 0xe1, 0x96, 0xef, 0x46,
+];
+
+const ROOT_6: [u8; 32] = [
+    0x58, 0x38, 0x06, 0x5d, 0x54, 0xb0, 0x98, 0x9f, 0x88, 0xdb, 0xb4, 0x5c, 0xb6, 0x05, 0x0d, 0x7b,
+    0x1f, 0x18, 0x37, 0xb9, 0xe0, 0x83, 0xb8, 0x3b, 0xff, 0x82, 0x89, 0x3d, 0x04, 0x95, 0x47, 0x5e,
+];
+
+const ROOT_7: [u8; 32] = [
+    0x8d, 0xe9, 0x50, 0x6a, 0x98, 0xfc, 0xb6, 0x18, 0x24, 0x40, 0x5a, 0xc4, 0xca, 0xac, 0xad, 0xb0,
+    0x7c, 0x32, 0x35, 0x88, 0x11, 0x13, 0xd1, 0xe7, 0xa9, 0x0c, 0x0e, 0x50, 0x1b, 0xe8, 0x9c, 0x74,
+];
+
+const ROOT_8: [u8; 32] = [
+    0x0c, 0xd3, 0x7a, 0xe0, 0x7f, 0x66, 0xc0, 0x1c, 0x64, 0xab, 0xdf, 0x02, 0x38, 0x7b, 0xce, 0xcc,
+    0x29, 0xeb, 0x5f, 0x8b, 0x1b, 0xc6, 0xd1, 0x0b, 0x20, 0x46, 0xca, 0x21, 0x13, 0x68, 0x59, 0x50,
+];
+
+const ROOT_9: [u8; 32] = [
+    0x6c, 0xfd, 0xd2, 0xa9, 0xfa, 0x96, 0xcb, 0x1d, 0x27, 0x1e, 0xc6, 0xff, 0x41, 0x40, 0x9f, 0x6e,
+    0xc0, 0x62, 0x73, 0xb9, 0x42, 0x3a, 0x4e, 0xef, 0x75, 0xc6, 0x1a, 0x60, 0x6c, 0x5a, 0x30, 0xa3,
+];
+
+// What the hashes below are of.
+const IDENTIFIER: [u8; 16] = [0, 1, 2, 3, 4, 5, 6, 7, 8, 9, 10, 11, 12, 13, 14, 15];
+
+const SEVENS: [u8; 32] = [7; 32];
+
+#[test]
+fn reads_the_tables(rt: HostRuntime) {
+    assert_eq!(rt; ots_of(0), None);
+    assert_eq!(rt; ots_of(3), Some(OtsParams { w: 4, p: 67, ls: 4 }));
+    assert_eq!(rt; ots_of(5), None);
+    for (code, height) in [(4, None), (5, Some(5)), (9, Some(25)), (10, None)] {
+        assert_eq!(rt; lms_of(code), height, "at {code}");
+    }
+}
+
+#[test]
+fn takes_digits(rt: HostRuntime) {
+    // The example of RFC 8554, 3.1.3.
+    let string = [0x12, 0x34];
+    assert_eq!(rt; coef(&string, 7, 1), 0);
+    assert_eq!(rt; coef(&string, 0, 4), 1);
+    assert_eq!(rt; coef(&string, 1, 8), 0x34);
+
+    let digest = counting();
+    let rows = [
+        (
+            OtsParams {
+                w: 1,
+                p: 265,
+                ls: 7,
+            },
+            22528,
+        ),
+        (
+            OtsParams {
+                w: 2,
+                p: 133,
+                ls: 6,
+            },
+            17408,
+        ),
+        (OtsParams { w: 4, p: 67, ls: 4 }, 11264),
+        (OtsParams { w: 8, p: 34, ls: 0 }, 7664),
+    ];
+    assert_eq!(rt; checksum(&digest, rows[0].0), rows[0].1);
+    assert_eq!(rt; checksum(&digest, rows[1].0), rows[1].1);
+    assert_eq!(rt; checksum(&digest, rows[2].0), rows[2].1);
+    assert_eq!(rt; checksum(&digest, rows[3].0), rows[3].1);
+    let signed = signed_string(&digest, rows[2].0);
+    assert_eq!(rt;
+        [signed[0], signed[31], signed[32], signed[33]],
+        [0, 31, 0x2c, 0x00]
+    );
+}
+
+#[test]
+fn hashes(rt: HostRuntime) {
+    assert_eq!(rt; chain_step(&IDENTIFIER, 9, 260, 3, &SEVENS), STEP);
+    assert_eq!(rt; chain(&IDENTIFIER, 9, 260, 3, 8, &SEVENS), CHAIN);
+    assert_eq!(rt; leaf_hash(&IDENTIFIER, 37, &SEVENS), LEAF);
+    assert_eq!(rt; inner_hash(&IDENTIFIER, 18, &SEVENS, &counting()), INNER);
+    assert_eq!(rt; message_hash(&IDENTIFIER, 5, &SEVENS, b"TEEP"), DIGEST);
+}
+
+// A signature whose strings are all zero is valid under the root that it leads to.
+#[test]
+fn verifies(rt: HostRuntime) -> Result<(), Fail> {
+    for (lms_type, height, ots_type, p, q, root) in [
+        (5, 5, 4, 34, 3, ROOT_5),
+        (6, 10, 3, 67, 1023, ROOT_6),
+        (7, 15, 2, 133, 0, ROOT_7),
+        (8, 20, 4, 34, 0x54321, ROOT_8),
+        (9, 25, 1, 265, 0x1abcdef, ROOT_9),
+    ] {
+        let public = public_key(rt.alloc(), lms_type, ots_type, &root)?;
+        let mut signature = zeros(rt.alloc(), lms_type, height, ots_type, p, q)?;
+        assert_eq!(rt; lms_signature_len(&public), Some(signature.len()));
+        assert!(rt; lms_verify(&public, b"TEEP", &signature), "type {lms_type}");
+        assert!(rt;
+            !lms_verify(&public, b"TEEp", &signature),
+            "type {lms_type}"
+        );
+        signature.push(0)?;
+        assert!(rt;
+            !lms_verify(&public, b"TEEP", &signature),
+            "type {lms_type}"
+        );
+    }
+    Ok(())
+}
+
+fn counting() -> [u8; 32] {
+    let mut bytes = [0; 32];
+    for i in 0..32 {
+        bytes[i as usize] = i;
+    }
+    bytes
+}
+
+fn public_key(
+    alloc: Global,
+    lms_type: u32,
+    ots_type: u32,
+    root: &[u8; 32],
+) -> Result<Vec<u8>, AllocError> {
+    let mut bytes = Vec::new(alloc);
+    bytes.extend_from_slice(&lms_type.to_be_bytes())?;
+    bytes.extend_from_slice(&ots_type.to_be_bytes())?;
+    bytes.extend_from_slice(&IDENTIFIER)?;
+    bytes.extend_from_slice(root)?;
+    Ok(bytes)
+}
+
+fn zeros(
+    alloc: Global,
+    lms_type: u32,
+    height: u32,
+    ots_type: u32,
+    p: u32,
+    q: u32,
+) -> Result<Vec<u8>, AllocError> {
+    let mut bytes = Vec::new(alloc);
+    bytes.extend_from_slice(&q.to_be_bytes())?;
+    bytes.extend_from_slice(&ots_type.to_be_bytes())?;
+    for _ in 0..u64::from(p) + 1 {
+        bytes.extend_from_slice(&[0; 32])?;
+    }
+    bytes.extend_from_slice(&lms_type.to_be_bytes())?;
+    for _ in 0..height {
+        bytes.extend_from_slice(&[0; 32])?;
+    }
+    Ok(bytes)
+}
