@@ -4,6 +4,8 @@
 #![tactic(auto)]
 
 mod printer;
+#[cfg(test)]
+mod tests;
 
 pub use cbor_core::{Boxed, Item, List, NoMemory, Octets, OrMemory, Pair, Utf8};
 pub use printer::print;
