@@ -11,6 +11,8 @@ mod key;
 mod labels;
 mod sign1;
 mod signed;
+#[cfg(test)]
+mod tests;
 
 pub use fault::{CoseFault, KeyFault};
 pub use headers::negative_field;

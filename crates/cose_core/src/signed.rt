@@ -1,4 +1,4 @@
-ghost use Rattle.std.specs.Prelude.{IfOk};
+ghost use Rattle.std.specs.Prelude.{◌≡◌, IfOk};
 ghost use Rattle.cbor_core.specs.Spelling.{Spells};
 ghost use Rattle.cose_core.specs.Signed.{signed_item};
 

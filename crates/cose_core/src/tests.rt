@@ -1,0 +1,116 @@
+use crate::{CoseFault, CoseKey, KeyFault, Sign1, negative_field, signed_bytes};
+use cbor_core::{Fault, Item, List, Octets, Pair, Why, encode};
+use std::alloc::Global;
+use std::test::Fail;
+
+// {1: -46}
+const PROTECTED: [u8; 4] = [0xa1, 0x01, 0x38, 0x2d];
+
+/// The example of what is signed: the encoding of `["Signature1", h'a101382d', h'', h'05']`.
+#[test]
+fn signs_these_bytes(rt: HostRuntime) -> Result<(), Fail> {
+    let bytes = signed_bytes(rt.alloc(), &PROTECTED, &[0x05])?;
+    let expected: [u8; 20] = [
+        0x84, 0x6a, 0x53, 0x69, 0x67, 0x6e, 0x61, 0x74, 0x75, 0x72, 0x65, 0x31, 0x44, 0xa1, 0x01,
+        0x38, 0x2d, 0x40, 0x41, 0x05,
+    ];
+    assert!(rt; bytes.as_slice() == expected.as_slice());
+    Ok(())
+}
+
+/// A refusal for each rule, and for each pair of rules the one that comes first.
+#[test]
+fn refuses_in_order(rt: HostRuntime) {
+    let alloc = rt.alloc();
+    let cut = Fault {
+        at: 1,
+        why: Why::CutHead,
+    };
+    let rows: [(&[u8], CoseFault); 17] = [
+        // bytes that spell no item
+        (&[0x84], CoseFault::NotCose(cut)),
+        // an array of three, a number, and another tag
+        (&[0x83, 0x40, 0xa0, 0xf6], CoseFault::Shape),
+        (&[0x05], CoseFault::Shape),
+        (
+            &[0xd1, 0x84, 0x44, 0xa1, 0x01, 0x38, 0x2d, 0xa0, 0xf6, 0x40],
+            CoseFault::Shape,
+        ),
+        // the tag twice
+        (
+            &[
+                0xd2, 0xd2, 0x84, 0x44, 0xa1, 0x01, 0x38, 0x2d, 0xa0, 0xf6, 0x40,
+            ],
+            CoseFault::Shape,
+        ),
+        // each member of another kind
+        (&[0x84, 0xf6, 0xa0, 0xf6, 0x40], CoseFault::Shape),
+        (
+            &[0x84, 0x44, 0xa1, 0x01, 0x38, 0x2d, 0x80, 0xf6, 0x40],
+            CoseFault::Shape,
+        ),
+        (
+            &[0x84, 0x44, 0xa1, 0x01, 0x38, 0x2d, 0xa0, 0x05, 0x40],
+            CoseFault::Shape,
+        ),
+        (
+            &[0x84, 0x44, 0xa1, 0x01, 0x38, 0x2d, 0xa0, 0xf6, 0xf6],
+            CoseFault::Shape,
+        ),
+        // protected bytes that wrap an array, no item, and a map with a byte behind it
+        (&[0x84, 0x41, 0x80, 0xa0, 0xf6, 0x40], CoseFault::Shape),
+        (&[0x84, 0x41, 0xa1, 0xa0, 0xf6, 0x40], CoseFault::Shape),
+        (
+            &[0x84, 0x42, 0xa0, 0x00, 0xa0, 0xf6, 0x40],
+            CoseFault::Shape,
+        ),
+        // no headers, an empty map, ES256
+        (&[0x84, 0x40, 0xa0, 0xf6, 0x40], CoseFault::WrongAlg),
+        (&[0x84, 0x41, 0xa0, 0xa0, 0xf6, 0x40], CoseFault::WrongAlg),
+        (
+            &[0x84, 0x43, 0xa1, 0x01, 0x26, 0xa0, 0xf6, 0x40],
+            CoseFault::WrongAlg,
+        ),
+        // ES256 and critical headers, HSS/LMS and critical headers
+        (
+            &[
+                0x84, 0x46, 0xa2, 0x01, 0x26, 0x02, 0x81, 0x01, 0xa0, 0xf6, 0x40,
+            ],
+            CoseFault::WrongAlg,
+        ),
+        (
+            &[
+                0x84, 0x47, 0xa2, 0x01, 0x38, 0x2d, 0x02, 0x81, 0x01, 0xa0, 0xf6, 0x40,
+            ],
+            CoseFault::Critical,
+        ),
+    ];
+    for (bytes, fault) in rows {
+        let read = Sign1::read(alloc, bytes);
+        assert!(rt; read == Err(fault), "{fault}");
+    }
+}
+
+fn octets(alloc: Global, bytes: &[u8]) -> Result<Octets, Fail> {
+    Ok(Octets::from_slice(alloc, bytes)?)
+}
+
+/// A message with the tag and without is one value, and is written with it.
+#[test]
+fn reads_and_writes_the_tagged_form(rt: HostRuntime) -> Result<(), Fail> {
+    let alloc = rt.alloc();
+    // 18([h'a101382d', {4: h'64'}, h'05', h'aabb'])
+    let bytes: [u8; 16] = [
+        0xd2, 0x84, 0x44, 0xa1, 0x01, 0x38, 0x2d, 0xa1, 0x04, 0x41, 0x64, 0x41, 0x05, 0x42, 0xaa,
+        0xbb,
+    ];
+    let value = Sign1::read(alloc, &bytes)?;
+    let payload = octets(alloc, &[0x05])?;
+    assert!(rt; value.protected == octets(alloc, &PROTECTED)?);
+    assert!(rt; value.payload == Some(payload));
+    assert!(rt; value.signature == octets(alloc, &[0xaa, 0xbb])?);
+    assert!(rt; value.kid() == Some([0x64].as_slice()));
+    assert!(rt; Sign1::read(alloc, &bytes[1..])? == value);
+    assert!(rt; value.is_proper(alloc)?);
+    Ok(())
+}
