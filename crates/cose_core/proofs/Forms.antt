@@ -1,5 +1,5 @@
 -- The members of a COSE_Sign1 in an item, and the headers of its protected bytes.
-use Rattle.std.proofs.Common.{◌≡◌, ℕ, Bool, true, false, cond, if◌then◌else◌, List, [], ◌∷◌, Option, None, Some, refl, sym, ap, subst, ◌∙◌, ◌⊎◌, inl, inr}
+use Rattle.std.proofs.Common.{◌≡◌, ℕ, Bool, true, false, cond, List, [], ◌∷◌, Option, None, Some, refl, sym, ap, subst, ◌∙◌, ◌⊎◌, inl, inr}
 use Rattle.std.specs.Prelude.{◌==◌, option_map, option_and_then}
 use Rattle.std.proofs.lemmas.Bool.{eqb-true}
 use Rattle.cbor_core.specs.declared.item.Item.{Item, out-Item}
@@ -8,14 +8,14 @@ use Rattle.cbor_core.specs.declared.item.Item.TheOpen.{Item-F}
 use Rattle.cbor_core.specs.declared.item.Item.TheViews.{roll-Item, roll-out-Item}
 use Rattle.cbor_core.specs.declared.item.Item.TheVariants as i
 use Rattle.cbor_core.specs.Spelling.{spelling, bytes_below, Spells}
-use Rattle.cbor_core.specs.Views.{bytes_of, map_of, array_by}
+use Rattle.cbor_core.specs.Views.{bytes_of, map_of}
 use Rattle.cbor_core.proofs.KeyOrder.{nothing_below}
 use Rattle.cbor_core.proofs.Inputs.{one_for_one}
 use Rattle.cose_core.specs.declared.sign1.Sign1.{Sign1}
 use Rattle.cose_core.specs.declared.labels.TheConstants.{SIGN1_TAG}
 use Rattle.cose_core.specs.Headers.{Wraps}
 use Rattle.cose_core.specs.Sign1.{payload_item, untagged, tagged, HasForm}
-use Rattle.cose_core.specs.Reading.{payload_of, four_by, members_by, content_by, content_of, array_members, form_of}
+use Rattle.cose_core.specs.Reading.{payload_of, members_by, content_by, content_of, array_members, form_of}
 use Rattle.cose_core.proofs.Views.{bytes_is, map_is, payload_is, bytes_back, map_back, payload_back, same_map}
 
 -- ---- the members

@@ -1,12 +1,12 @@
 -- The answers of the reader of COSE_Key, and what is written.
 use Rattle.std.proofs.Common.{◌≡◌, ℕ, List, [], ◌∷◌, ◌++◌, Option, None, Some, Result, Ok, Err, refl, sym, ap, subst, ◌∙◌, ◌⊎◌, inl, inr, arith}
 use Rattle.std.specs.Prelude.{IfOk, IfErr, option_map}
-use Rattle.cbor_core.specs.declared.item.Item.{Item, out-Item}
+use Rattle.cbor_core.specs.declared.item.Item.{Item}
 use Rattle.cbor_core.specs.declared.item.Pair.{Pair}
 use Rattle.cbor_core.specs.declared.fault.Fault.{Fault}
 use Rattle.cbor_core.specs.declared.item.Item.TheVariants as i
 use Rattle.cbor_core.specs.Spelling.{Spells, IsProper}
-use Rattle.cbor_core.specs.Views.{field, bytes_of, map_of}
+use Rattle.cbor_core.specs.Views.{field, bytes_of}
 use Rattle.cbor_core.specs.Law.{IsFaultyWhole}
 use Rattle.cbor_core.proofs.KeyOrder.{layers}
 use Rattle.cbor_core.proofs.Inputs.{one_for_one}
@@ -15,8 +15,8 @@ use Rattle.cose_core.specs.declared.fault.KeyFault.{KeyFault}
 use Rattle.cose_core.specs.declared.fault.KeyFault.TheVariants as faults
 use Rattle.cose_core.specs.declared.labels.TheConstants.{ALG_HSS_LMS, KEY_KTY, KEY_KID, KEY_ALG, KEY_PUB, KTY_HSS_LMS}
 use Rattle.cose_core.specs.Headers.{negative_field, bytes_if}
-use Rattle.cose_core.specs.Key.{IsForHssLms, IsKey, IsKeyItem, KeyIs, KeyRefusedAs, IsKeyFound, IsKeyRefused, kid_if, KeyReadAs, kid_pairs, written_key}
-use Rattle.cose_core.proofs.Views.{bytes_is, map_is, bytes_back, same_bytes, same_map}
+use Rattle.cose_core.specs.Key.{IsKey, IsKeyItem, KeyIs, KeyRefusedAs, IsKeyFound, IsKeyRefused, kid_if, KeyReadAs, kid_pairs, written_key}
+use Rattle.cose_core.proofs.Views.{bytes_is, bytes_back, same_bytes, same_map}
 
 -- ---- the parts
 
@@ -59,6 +59,10 @@ key_found bytes x (Err e) s h = tt
 -- a key of the bytes is one of the item that they spell
 key_at : (bytes : List ℕ) (x : Item) (v : CoseKey) → Spells x bytes → KeyIs v bytes → IsKeyItem v x
 key_at bytes x v s is = subst (λ (y : Item). IsKeyItem v y) (one_for_one.one_item is.item x bytes is.spelled s) is.key
+
+-- bytes are one key at most
+pub one_key_of_bytes : (bytes : List ℕ) (v w : CoseKey) → KeyIs v bytes → KeyIs w bytes → v ≡ w
+one_key_of_bytes bytes v w a b = one_key a.item v w a.key (key_at bytes a.item w a.spelled b)
 
 pub key_bad : (bytes : List ℕ) (x : Item) (r : Result CoseKey KeyFault) → Spells x bytes → KeyReadAs x r → IfErr r (λ e. (e ≡ faults.NoMemory) ⊎ KeyRefusedAs bytes e)
 key_bad bytes x (Ok v) s h = tt

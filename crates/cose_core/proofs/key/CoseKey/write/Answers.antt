@@ -1,7 +1,7 @@
 use Rattle.std.proofs.Common.{sym, subst}
 use Rattle.cbor_core.specs.declared.item.Item.{Item}
 use Rattle.cbor_core.specs.Spelling.{IsProper}
-use Rattle.cose_core.proofs.Keys.{key_proper, key_again}
+use Rattle.cose_core.proofs.Keys.{key_proper}
 use Rattle.cose_core.proofs.key.CoseKey.write.Goals as goal
 
 pub encode-requires : goal.encode-requires
