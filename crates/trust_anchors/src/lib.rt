@@ -6,6 +6,8 @@ mod fault;
 mod reading;
 mod role;
 mod signers;
+#[cfg(test)]
+mod tests;
 mod writing;
 
 pub use anchors::{ANCHORS_LIMIT, Anchors};
