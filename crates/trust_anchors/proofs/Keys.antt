@@ -1,10 +1,8 @@
 -- The keys in byte strings.
-use Rattle.std.proofs.Common.{◌≡◌, ◌+◌, ◌<◌, ◌≤◌, ℕ, List, [], ◌∷◌, ◌++◌, length, get_or, take, Option, None, Some, Result, Ok, Err, refl, sym, ap, subst, ◌∙◌, ◌⊎◌, inl, inr, arith}
-use Rattle.std.specs.List.{AllByRecursion, AllZip}
+use Rattle.std.proofs.Common.{◌≡◌, ℕ, List, Option, None, Some, refl, sym, ap, subst, ◌∙◌}
 use Rattle.std.specs.Prelude.{MatchOption, IfSome, IsSome, ◌↔◌}
 use Rattle.cbor_core.specs.declared.item.Item.{Item}
-use Rattle.cbor_core.specs.declared.item.Item.TheVariants as i
-use Rattle.cbor_core.specs.Views.{bytes_of, array_of}
+use Rattle.cbor_core.specs.Views.{bytes_of}
 use Rattle.cose_core.specs.declared.key.CoseKey.{CoseKey}
 use Rattle.cose_core.specs.Key.{KeyIs}
 use Rattle.cose_core.proofs.Keys.{one_key_of_bytes}

@@ -1,5 +1,5 @@
 -- The answers of the reader of anchors, and of the search for a signer.
-use Rattle.std.proofs.Common.{◌≡◌, ◌<◌, ◌≤◌, ℕ, List, [], ◌∷◌, ◌++◌, length, None, Some, Result, Ok, Err, refl, sym, ap, subst, ◌∙◌, ◌⊎◌, inl, inr, arith}
+use Rattle.std.proofs.Common.{◌≡◌, ◌≤◌, ℕ, List, [], ◌∷◌, ◌++◌, length, Some, Result, Ok, Err, refl, sym, ap, subst, ◌∙◌, ◌⊎◌, inl, inr, arith}
 use Rattle.std.specs.Prelude.{IfOk, IfErr}
 use Rattle.std.specs.List.{AllByRecursion, AllZip}
 use Rattle.cbor_core.specs.declared.item.Item.{Item}
@@ -14,8 +14,7 @@ use Rattle.trust_anchors.specs.declared.fault.AnchorFault.{AnchorFault}
 use Rattle.trust_anchors.specs.declared.fault.AnchorFault.TheVariants as faults
 use Rattle.trust_anchors.specs.declared.fault.SignFault.{SignFault}
 use Rattle.trust_anchors.specs.declared.fault.SignFault.TheVariants as sign
-use Rattle.trust_anchors.specs.First.{FirstAt}
-use Rattle.trust_anchors.specs.Anchors.{IsString, Wraps, IsGood, IsBad, HasForm, IsSmall, AnchorsIs, IsOver, IsBadAt, HasTooMany, HasBadKey, RefusedAs, IsFound, IsRefused, KeysReadAs, AreStrings, AreFew, RolesReadAs}
+use Rattle.trust_anchors.specs.Anchors.{IsString, Wraps, IsGood, IsBad, AnchorsIs, IsOver, IsBadAt, RefusedAs, IsFound, IsRefused, KeysReadAs, AreStrings, AreFew, RolesReadAs}
 use Rattle.trust_anchors.specs.Verified.{Signs, FirstSigner, IsSigner, SearchedAs}
 use Rattle.trust_anchors.proofs.Lists.{first_none, first_one, zip_one, zip_each, zip_length}
 use Rattle.trust_anchors.proofs.Keys.{one_wrapped, good_not_bad}

@@ -1,4 +1,4 @@
-use Rattle.std.proofs.Common.{rules, arith, Err}
+use Rattle.std.proofs.Common.{rules, arith}
 use Rattle.std.specs.List.{AllByRecursion}
 use Rattle.std.proofs.lemmas.Result.{err_from_is_err_and}
 use Rattle.trust_anchors.specs.Anchors.{IsString}
