@@ -1,0 +1,5 @@
+pub mod Views
+pub mod Forms
+pub mod Sign1s
+pub mod Keys
+pub mod SignedItems

@@ -1,0 +1,6 @@
+pub mod Faults
+pub mod Headers
+pub mod Signed
+pub mod Sign1
+pub mod Reading
+pub mod Key

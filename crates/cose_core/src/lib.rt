@@ -1,0 +1,25 @@
+//! COSE as this product uses it: COSE_Sign1 with HSS/LMS signatures, and their public keys as
+//! COSE_Key (RFC 9052 and RFC 8778).
+//!
+//! `Sign1` is read and written with all headers that are not looked at. `signed_bytes` are the bytes
+//! that its signature is of. `CoseKey` is the form in which a public key travels.
+#![tactic(auto)]
+
+mod fault;
+mod headers;
+mod key;
+mod labels;
+mod sign1;
+mod signed;
+#[cfg(test)]
+mod tests;
+
+pub use fault::{CoseFault, KeyFault};
+pub use headers::negative_field;
+pub use key::CoseKey;
+pub use labels::{
+    ALG_HSS_LMS, HEADER_ALG, HEADER_CRIT, HEADER_KID, KEY_ALG, KEY_KID, KEY_KTY, KEY_PUB,
+    KTY_HSS_LMS, SIGN1_TAG,
+};
+pub use sign1::Sign1;
+pub use signed::signed_bytes;

@@ -1,0 +1,4 @@
+pub mod Printing
+pub mod First
+pub mod Anchors
+pub mod Verified

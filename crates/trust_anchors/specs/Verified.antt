@@ -1,0 +1,38 @@
+-- Which anchor signed a message.
+use Rattle.std.specs.Prelude.{◌≡◌, ℕ, List, Result, Ok, Err}
+use Rattle.cose_core.specs.declared.sign1.Sign1.{Sign1}
+use Rattle.cose_core.specs.Signed.{signed_item}
+use Rattle.cbor_core.specs.Spelling.{spelling}
+use Rattle.hss_verify.specs.Hss.{HssValid}
+use Rattle.trust_anchors.specs.declared.anchors.Anchors.{Anchors}
+use Rattle.trust_anchors.specs.declared.role.Role.{Role}
+use Rattle.trust_anchors.specs.declared.fault.SignFault.{SignFault}
+use Rattle.trust_anchors.specs.declared.fault.SignFault.TheVariants as faults
+use Rattle.trust_anchors.specs.Anchors.{keys_of}
+use Rattle.std.specs.List.{AllByRecursion}
+use Rattle.trust_anchors.specs.First.{FirstAt}
+
+-- the key made the signature of these bytes
+abbrev pub Signs : List ℕ → List ℕ → List ℕ → Type 0
+Signs message signature key = HssValid key message signature
+
+-- the first key that made the signature of the bytes
+abbrev pub FirstSigner : List (List ℕ) → List ℕ → List ℕ → ℕ → Type 0
+FirstSigner keys message signature at = FirstAt (λ key. ¬ (Signs message signature key)) (Signs message signature) keys at
+
+-- The anchor at this place of the role is the first that signed the message: what is signed are its protected bytes and this payload
+-- (RFC 9052, section 4.4).
+abbrev pub Verified : Anchors → Role → Sign1 → List ℕ → ℕ → Type 0
+Verified v r message payload at = FirstSigner (keys_of r v) (spelling (signed_item message.protected payload)) message.signature at
+
+-- the answer is this anchor, unless memory ran out
+abbrev pub IsSigner : Result ℕ SignFault → ℕ → Type 0
+IsSigner (Ok n) at = n ≡ at
+IsSigner (Err faults.NotSigned) at = ⊥
+IsSigner (Err faults.NoMemory) at = Unit {0}
+
+-- what the search for a signer answers
+abbrev pub SearchedAs : List (List ℕ) → List ℕ → List ℕ → Result ℕ SignFault → Type 0
+SearchedAs keys message signature (Ok at) = FirstSigner keys message signature at
+SearchedAs keys message signature (Err faults.NotSigned) = AllByRecursion (λ key. ¬ (Signs message signature key)) keys
+SearchedAs keys message signature (Err faults.NoMemory) = ⊥

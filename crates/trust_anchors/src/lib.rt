@@ -1,0 +1,15 @@
+//! The keys that a device trusts, by role, and the test that a message is signed by one of them.
+#![tactic(auto)]
+
+mod anchors;
+mod fault;
+mod reading;
+mod role;
+mod signers;
+#[cfg(test)]
+mod tests;
+mod writing;
+
+pub use anchors::{ANCHORS_LIMIT, Anchors};
+pub use fault::{AnchorFault, SignFault};
+pub use role::Role;
