@@ -4,3 +4,7 @@ pub mod Depths
 pub mod Digits
 pub mod Takes
 pub mod Loops
+pub mod Found
+pub mod Again
+pub mod Reread
+pub mod Exact

@@ -1,4 +1,4 @@
-ghost use Rattle.std.specs.Prelude.{◌≡◌, ◌≤◌, ◌<◌, length, if◌then◌else◌};
+ghost use Rattle.std.specs.Prelude.{◌≡◌, ◌≤◌, ◌<◌, ◌^◌, length, if◌then◌else◌};
 ghost use Rattle.cbor_core.specs.Place.{start, skip};
 ghost use Rattle.diag_text.specs.Reading.{begins};
 
@@ -32,7 +32,8 @@ impl<'a> Cursor<'a> {
 
     /// How many bytes stand before the place.
     pub fn at(&self) -> usize
-        ensures { result ≡ self.now.at }
+        ensures value { result ≡ self.now.at }
+        ensures fits { length self.now.rest < 2 ^ 64 }
     {
         self.at
     }
