@@ -66,8 +66,8 @@ hex_not_close v lt more =
     rw (ne_eqb 39 (hex_digit (v / 16)) (hex_not_mark (v / 16) high)) refl
 
 module _ (spell : ℕ → List ℕ) (guess : List ℕ → ℕ) (close : List ℕ) (Good : ℕ → Type 0)
-  (back : (v : ℕ) → Good v → (more : List ℕ) → guess (spell v ++ more) ≡ v)
-  (open_still : (v : ℕ) → Good v → (more : List ℕ) → begins close (spell v ++ more) ≡ false) where
+    (back : (v : ℕ) → Good v → (more : List ℕ) → guess (spell v ++ more) ≡ v)
+    (open_still : (v : ℕ) → Good v → (more : List ℕ) → begins close (spell v ++ more) ≡ false) where
   pub pieces_again : (at : ℕ) (vs found : List ℕ) (n b : ℕ) (more : List ℕ) → AllByRecursion Good vs → length vs < n
       → pieces_at spell guess close at n found (place b (flat_map spell vs ++ (close ++ more))) ≡ Ok (found ++ vs, place (b + length (flat_map spell vs ++ close)) more)
   unfolding pieces_at

@@ -9,7 +9,7 @@ use Rattle.diag_text.specs.declared.fault.DiagFault.TheVariants as faults
 use Rattle.diag_text.specs.Reading.{Outcome, Reader, ◌>>=◌, Fails, begins, behind, pieces_at, parts_at, member_at, last_key}
 
 module _ (spell : ℕ → List ℕ) (guess : List ℕ → ℕ) (close : List ℕ) (at n k : ℕ) (found : List ℕ) (p : Place) (total : Outcome (List ℕ))
-  (so_far : pieces_at spell guess close at (n - k) found p ≡ total) where
+    (so_far : pieces_at spell guess close at (n - k) found p ≡ total) where
   pub piece_closes : k < n → begins close p.rest ≡ true → total ≡ Ok (found, skip (length close) p)
   unfolding pieces_at
   piece_closes lt here = let e : n - k ≡ suc (n - (k + 1)) = omega arith in sym so_far ∙ (rw (e, here) refl)
@@ -44,7 +44,7 @@ module _ (spell : ℕ → List ℕ) (guess : List ℕ → ℕ) (close : List ℕ
       rw (longer, behind_is, place, guessed) next
 
 module _ {X : Type 0} (part : List X → Reader X) (close : List ℕ) (n k : ℕ) (found : List X) (p : Place) (total : Outcome (List X))
-  (so_far : parts_at part close (n - k) found p ≡ total) where
+    (so_far : parts_at part close (n - k) found p ≡ total) where
   pub part_fails : (e : DiagFault) → k < n → Fails (part found p) e → Fails total e
   unfolding parts_at
   part_fails faults.NoMemory lt here = tt

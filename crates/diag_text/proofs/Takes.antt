@@ -129,7 +129,7 @@ pub record Parts {X : Type 0} (text : X → List ℕ) (P : List X → X → Type
   pub took : Took p (listed text (first ∷ others) ++ close) x.1
 
 module _ {X : Type 0} (part : List X → Reader X) (text : X → List ℕ) (P : List X → X → Type 0) (close : List ℕ)
-  (law : (found : List X) (p : Place) (x : X × Place) → length p.rest < 2 ^ 64 → part found p ≡ Ok x → Took p (text x.0) x.1 × P found x.0) where
+    (law : (found : List X) (p : Place) (x : X × Place) → length p.rest < 2 ^ 64 → part found p ≡ Ok x → Took p (text x.0) x.1 × P found x.0) where
   pub parts_take : (n : ℕ) (found : List X) (p : Place) (x : List X × Place) → length p.rest < 2 ^ 64 → parts_at part close n found p ≡ Ok x → Parts text P close n found p x
   unfolding parts_at
   parts_take zero found p x fits e = absurd (not_ok p.at x e)

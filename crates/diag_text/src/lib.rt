@@ -8,6 +8,8 @@ mod fault;
 mod printer;
 mod reader;
 mod scan;
+#[cfg(test)]
+mod tests;
 
 pub use cbor_core::{Boxed, Item, List, NoMemory, Octets, OrMemory, Pair, Utf8};
 pub use fault::{DiagFault, TextFault};

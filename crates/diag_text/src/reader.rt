@@ -136,11 +136,7 @@ fn read_array(
 
 /// Reads the members of an array, up to its `]`.
 #[cycle(reader)]
-fn read_members(
-    alloc: Global,
-    depth: u8,
-    input: &mut Cursor<'_>,
-) -> Result<List<Item>, DiagFault>
+fn read_members(alloc: Global, depth: u8, input: &mut Cursor<'_>) -> Result<List<Item>, DiagFault>
     requires { depth ≤ 16 }
     ensures { Gives (parts_at (member_at (item_at depth)) (codes "]") (length input.old.rest) [] input.old) result input.new }
 {
@@ -160,12 +156,7 @@ fn read_members(
 /// Reads the map that began at a place, behind its `{`.
 #[cycle(reader)]
 #[tactic(auto, using(crate::proofs::Depths::depths))]
-fn read_map(
-    alloc: Global,
-    depth: u8,
-    input: &mut Cursor<'_>,
-    at: usize,
-) -> Result<Item, DiagFault>
+fn read_map(alloc: Global, depth: u8, input: &mut Cursor<'_>, at: usize) -> Result<Item, DiagFault>
     requires { depth ≤ 16 }
     ensures { Gives (map_at (inside depth) at input.old) result input.new }
 {
@@ -229,11 +220,7 @@ fn read_pair(
 
 /// Reads the pairs of a map, up to its `}`.
 #[cycle(reader)]
-fn read_pairs(
-    alloc: Global,
-    depth: u8,
-    input: &mut Cursor<'_>,
-) -> Result<List<Pair>, DiagFault>
+fn read_pairs(alloc: Global, depth: u8, input: &mut Cursor<'_>) -> Result<List<Pair>, DiagFault>
     requires { depth < 16 }
     ensures { Gives (parts_at (pair_at (item_at depth)) (codes "}") (length input.old.rest) [] input.old) result input.new }
 {

@@ -67,7 +67,7 @@ read_pairs-loop-preserved t c =
     let two = rw c.if-not-token.false at c.token-in-loop.ensures.after in
     record {
       so_far = (met_next (pair_at (item_at c.args.depth)) (codes "}") (length c.args.input.now.rest) c.loop.counter c.loop.found c.loop.input _ c.loop.invariant.so_far c.in_ok-read_pair.field-0 c.read_pair.new.input c.token.new.self c.token-in-loop.new.self c.token.result c.token-in-loop.result c.push.new.self
-    lt (c.in_ok-read_pair.ensures.read c.loop.found c.loop.invariant.last) c.token.ensures.found c.if-token.false one c.token-in-loop.ensures.found c.if-not-token.false two c.in_ok-push.ensures.ok);
+          lt (c.in_ok-read_pair.ensures.read c.loop.found c.loop.invariant.last) c.token.ensures.found c.if-token.false one c.token-in-loop.ensures.found c.if-not-token.false two c.in_ok-push.ensures.ok);
       last = c.in_ok-read_pair.ensures.last ∙ sym (last_key_more [] c.loop.found c.in_ok-read_pair.field-0) ∙ ap (λ (ps : List Pair). last_key [] ps) (sym c.in_ok-push.ensures.ok);
     }
 
