@@ -1,6 +1,5 @@
 -- The text of a proper item is read as that item.
-use Rattle.std.proofs.Common.{◌≡◌, ◌≢◌, ℕ, zero, suc, ◌+◌, ◌-◌, ◌*◌, ◌/◌, ◌%◌, ◌^◌, ◌<◌, ◌≤◌, Bool, true, false, cond, nat_lt, nat_eq, List, [], ◌∷◌, ◌++◌, length, take, drop, get_or, Ok, Err, Option, Some, None, refl, sym, ap, subst, ◌∙◌, append_assoc, append-nil, arith, ◌⊎◌, inl, inr, codes, decimal, ne_eqb, eq-eqb, lt-ltb, le-ltb, length-append, drop_at}
-use Rattle.std.specs.Prelude.{slice_index, ◌==◌}
+use Rattle.std.proofs.Common.{◌≡◌, ◌≢◌, ℕ, zero, suc, ◌+◌, ◌*◌, ◌/◌, ◌%◌, ◌^◌, ◌<◌, ◌≤◌, true, false, List, [], ◌∷◌, ◌++◌, length, Ok, Some, refl, ap, ◌∙◌, append_assoc, append-nil, arith, ◌⊎◌, inl, inr, codes, decimal, ne_eqb, eq-eqb, lt-ltb, le-ltb, length-append, drop_at}
 use Rattle.std.specs.List.{flat_map, AllByRecursion}
 use Rattle.std.specs.Char.{is_ascii_digit}
 use Rattle.std.specs.Str.Parse.{AllDigits, digits_value}
@@ -12,7 +11,7 @@ use Rattle.std.proofs.lemmas.Slice.Eq.{starts_is}
 use Rattle.std.proofs.lemmas.Str.Parse.{digit_at}
 use Rattle.cbor_core.specs.Place.{Place, skip}
 use Rattle.diag_text.specs.Printed.{hex_digit, hex_byte, escaped, listed}
-use Rattle.diag_text.specs.Reading.{Outcome, begins, behind, digits, same, value_below, if_decimal, number_of, number_by, number_at, hex_value, hex_pair, hex_guess, text_guess, pieces_at, parts_at, Reader}
+use Rattle.diag_text.specs.Reading.{Outcome, begins, behind, digits, same, number_of, number_at, hex_value, hex_pair, hex_guess, text_guess, pieces_at, parts_at, Reader}
 use Rattle.diag_text.proofs.Characters.{plain}
 
 abbrev pub place : ℕ → List ℕ → Place

@@ -1,15 +1,14 @@
 -- A whole text is read exactly where it is that of a proper item.
-use Rattle.std.proofs.Common.{◌≡◌, ℕ, zero, suc, ◌+◌, ◌^◌, ◌<◌, ◌≤◌, Bool, true, false, cond, nat_lt, List, [], ◌∷◌, ◌++◌, length, Result, Ok, Err, refl, sym, ap, subst, ◌∙◌, append-nil, arith, inl, inr}
+use Rattle.std.proofs.Common.{◌≡◌, ℕ, ◌^◌, ◌<◌, ◌≤◌, nat_lt, List, [], ◌∷◌, ◌++◌, length, Result, Ok, Err, refl, sym, ap, subst, ◌∙◌, append-nil, arith, inl, inr}
 use Rattle.std.specs.Prelude.{IfOk}
 use Rattle.std.proofs.lemmas.Bool.{ltb-false}
 use Rattle.cbor_core.specs.declared.item.Item.{Item}
-use Rattle.cbor_core.specs.Place.{Place, start}
-use Rattle.cbor_core.specs.Spelling.{IsSpellable}
+use Rattle.cbor_core.specs.Place.{start}
 use Rattle.diag_text.specs.declared.fault.DiagFault.{DiagFault}
 use Rattle.diag_text.specs.declared.fault.DiagFault.TheVariants as faults
 use Rattle.diag_text.specs.Printed.{printed, Prints}
-use Rattle.diag_text.specs.Reading.{Outcome, item_at, alone, alone_by, whole_at, Decides, IsFound}
-use Rattle.diag_text.proofs.Takes.{chosen, not_ok, Took}
+use Rattle.diag_text.specs.Reading.{Outcome, item_at, alone_by, whole_at, Decides, IsFound}
+use Rattle.diag_text.proofs.Takes.{chosen, not_ok}
 use Rattle.diag_text.proofs.Found.{item_takes}
 use Rattle.diag_text.proofs.Reread.{item_again}
 

@@ -1,5 +1,5 @@
 -- An item that is read has the text that stood there, and is proper and in range.
-use Rattle.std.proofs.Common.{◌≡◌, ℕ, zero, suc, ◌+◌, ◌-◌, ◌*◌, ◌^◌, ◌<◌, ◌≤◌, Bool, true, false, cond, nat_lt, List, [], ◌∷◌, ◌++◌, length, Ok, Err, Option, Some, None, refl, sym, ap, subst, ◌∙◌, append_assoc, arith, inl, inr, codes, decimal, ltb-true, ltb-false, lt-ltb, le-ltb}
+use Rattle.std.proofs.Common.{◌≡◌, ℕ, zero, suc, ◌+◌, ◌-◌, ◌^◌, ◌<◌, ◌≤◌, Bool, true, false, cond, nat_lt, List, [], ◌∷◌, ◌++◌, length, Ok, Err, Option, Some, None, refl, sym, ap, subst, ◌∙◌, arith, inl, inr, codes, decimal, ltb-true, lt-ltb, le-ltb}
 use Rattle.std.specs.Prelude.{slice_index}
 use Rattle.std.specs.List.{flat_map, AllByRecursion}
 use Rattle.std.specs.Str.{is_utf8}
@@ -9,14 +9,14 @@ use Rattle.cbor_core.specs.declared.item.Item.{Item, out-Item}
 use Rattle.cbor_core.specs.declared.item.Item.TheVariants as i
 use Rattle.cbor_core.specs.declared.item.Pair.{Pair}
 use Rattle.cbor_core.specs.Place.{Place, skip}
-use Rattle.cbor_core.specs.Spelling.{spelling, bytes_below, KeysAscend, IsBytes, IsSpellable, IsProper, IsProperWithin}
+use Rattle.cbor_core.specs.Spelling.{spelling, bytes_below, KeysAscend, IsSpellable, IsProper, IsProperWithin}
 use Rattle.cbor_core.proofs.Parts.{proper_more}
 use Rattle.diag_text.proofs.Loops.{last_key_more, member_is}
 use Rattle.cbor_core.proofs.Levels.{IsWholeBy, to_spellable}
-use Rattle.diag_text.specs.Printed.{hex_byte, escaped, listed, word, printed, pair_printed}
-use Rattle.diag_text.specs.Reading.{Outcome, Reader, ◌>>=◌, begins, behind, hex_value, hex_pair, hex_guess, text_guess, bytes_at, text_at, parts_at, inside_at, member_at, last_key, key_at, pair_at, array_at, map_at, tag_at, number_at, number_or_tag, negative_by, negative_at, text_by, string_at, plain_at, item_by, item_at}
+use Rattle.diag_text.specs.Printed.{hex_byte, escaped, listed, printed, pair_printed}
+use Rattle.diag_text.specs.Reading.{Reader, ◌>>=◌, begins, behind, hex_value, hex_guess, text_guess, bytes_at, text_at, parts_at, inside_at, member_at, last_key, key_at, pair_at, array_at, map_at, tag_at, number_at, number_or_tag, negative_by, negative_at, text_by, string_at, item_by, item_at}
 use Rattle.diag_text.proofs.Texts.{printed_Unsigned, printed_Negative, printed_Bytes, printed_Text, printed_Array, printed_Map, printed_Tag, printed_Truth, printed_Null, pair_printed_out}
-use Rattle.diag_text.proofs.Takes.{bind_ok, not_ok, ok_is, chosen, held, Took, took_none, took_then, took_fits, token_took, behind_took, done, Pieces, pieces_take, Chain, Parts, parts_take, number_takes}
+use Rattle.diag_text.proofs.Takes.{bind_ok, not_ok, ok_is, chosen, held, Took, took_then, took_fits, token_took, behind_took, done, pieces_take, Chain, parts_take, number_takes}
 
 hex_small : (c : ℕ) → hex_value c < 16
 hex_small c = elim (cases_lt c 48) [

@@ -1,12 +1,12 @@
 -- One step of a loop that reads pieces of a string, or parts of a container.
-use Rattle.std.proofs.Common.{◌≡◌, ℕ, zero, suc, ◌+◌, ◌-◌, ◌<◌, ◌≤◌, Bool, true, false, cond, List, [], ◌∷◌, ◌++◌, length, Ok, Err, refl, sym, ap, subst, ◌∙◌, arith, codes}
+use Rattle.std.proofs.Common.{◌≡◌, ℕ, suc, ◌+◌, ◌-◌, ◌<◌, ◌≤◌, Bool, true, false, List, [], ◌∷◌, ◌++◌, length, Ok, Err, refl, sym, ap, subst, ◌∙◌, arith, codes}
 use Rattle.cbor_core.specs.declared.item.Item.{Item}
 use Rattle.cbor_core.specs.declared.item.Pair.{Pair}
 use Rattle.cbor_core.specs.Spelling.{spelling}
 use Rattle.cbor_core.specs.Place.{Place, skip}
 use Rattle.diag_text.specs.declared.fault.DiagFault.{DiagFault}
 use Rattle.diag_text.specs.declared.fault.DiagFault.TheVariants as faults
-use Rattle.diag_text.specs.Reading.{Outcome, Reader, ◌>>=◌, Fails, begins, behind, pieces_at, parts_at, member_at, last_key}
+use Rattle.diag_text.specs.Reading.{Outcome, Reader, Fails, begins, pieces_at, parts_at, member_at, last_key}
 
 module _ (spell : ℕ → List ℕ) (guess : List ℕ → ℕ) (close : List ℕ) (at n k : ℕ) (found : List ℕ) (p : Place) (total : Outcome (List ℕ))
     (so_far : pieces_at spell guess close at (n - k) found p ≡ total) where

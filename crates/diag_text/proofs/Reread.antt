@@ -1,5 +1,5 @@
 -- The text of each item is read as that item, whatever follows that is no digit and no bracket.
-use Rattle.std.proofs.Common.{◌≡◌, ◌≢◌, ℕ, zero, suc, ◌+◌, ◌-◌, ◌*◌, ◌^◌, ◌<◌, ◌≤◌, Bool, true, false, cond, nat_lt, nat_eq, List, [], ◌∷◌, ◌++◌, length, Ok, Err, Option, Some, None, refl, sym, ap, subst, ◌∙◌, append_assoc, append-nil, arith, inl, inr, codes, decimal, ne_eqb, lt-ltb, length-append}
+use Rattle.std.proofs.Common.{◌≡◌, ◌≢◌, ℕ, zero, suc, ◌+◌, ◌-◌, ◌^◌, ◌<◌, ◌≤◌, Bool, true, false, nat_lt, List, [], ◌∷◌, ◌++◌, length, Ok, Option, Some, None, refl, sym, ap, subst, ◌∙◌, append_assoc, append-nil, arith, codes, decimal, ne_eqb, lt-ltb, length-append}
 use Rattle.std.specs.List.{flat_map, AllByRecursion}
 use Rattle.std.specs.Str.{IsUtf8}
 use Rattle.std.specs.Str.Parse.{AllDigits}
@@ -11,14 +11,14 @@ use Rattle.cbor_core.specs.declared.item.Item.TheOpen.{Item-F}
 use Rattle.cbor_core.specs.declared.item.Item.TheViews.{roll-Item, roll-out-Item}
 use Rattle.cbor_core.specs.declared.item.Item.TheVariants as i
 use Rattle.cbor_core.specs.declared.item.Pair.{Pair}
-use Rattle.cbor_core.specs.Place.{Place, skip}
+use Rattle.cbor_core.specs.Place.{Place}
 use Rattle.cbor_core.specs.Spelling.{spelling, bytes_below, KeysAscend, IsBytes, IsSpellable}
 use Rattle.cbor_core.proofs.Levels.{IsWholeBy, from_spellable, has_room, IsPart}
-use Rattle.diag_text.specs.Printed.{hex_byte, escaped, listed, word, printed, pair_printed}
-use Rattle.diag_text.specs.Reading.{Outcome, Reader, ◌>>=◌, begins, behind, key_at, hex_guess, text_guess, pieces_at, parts_at, inside_at, member_at, last_key, pair_at, number_at, number_or_tag, plain_at, negative_by, text_by, item_by, item_at}
+use Rattle.diag_text.specs.Printed.{hex_byte, escaped, listed, printed, pair_printed}
+use Rattle.diag_text.specs.Reading.{Outcome, Reader, begins, hex_guess, text_guess, inside_at, member_at, last_key, pair_at, plain_at, item_by, item_at}
 use Rattle.diag_text.proofs.Texts.{printed_Unsigned, printed_Negative, printed_Bytes, printed_Text, printed_Array, printed_Map, printed_Tag, printed_Truth, printed_Null, pair_printed_out}
 use Rattle.diag_text.proofs.Loops.{member_is, last_key_more}
-use Rattle.diag_text.proofs.Again.{place, begins_front, skip_front, behind_again, hex_guess_back, hex_not_close, pieces_again, Stops, number_again, digits_stop, digits_bracket, no_bracket, AgainBy, IsMark, square as square_mark, curly as curly_mark, Each, parts_again, flat_long, form_of, text_back_by, text_open_by, text_some_by}
+use Rattle.diag_text.proofs.Again.{place, begins_front, skip_front, hex_guess_back, hex_not_close, pieces_again, Stops, number_again, digits_stop, digits_bracket, no_bracket, AgainBy, IsMark, square as square_mark, curly as curly_mark, Each, parts_again, flat_long, form_of, text_back_by, text_open_by, text_some_by}
 
 -- the first byte of an item's text, which closes no container
 pub record Front (text : List ℕ) : Type 0 where

@@ -1,23 +1,14 @@
 -- What is read has this text.
-use Rattle.std.proofs.Common.{◌≡◌, ℕ, zero, suc, ◌+◌, ◌-◌, ◌*◌, ◌^◌, ◌<◌, ◌≤◌, Bool, true, false, cond, nat_lt, List, [], ◌∷◌, ◌++◌, length, take, drop, Result, Ok, Err, Option, Some, None, refl, sym, ap, subst, ◌∙◌, append_assoc, append-nil, arith, inl, inr, ◌⊎◌, codes, decimal, take-append-drop, length-append, ltb-true, nat_eq}
-use Rattle.std.specs.Prelude.{slice_index}
-use Rattle.std.specs.List.{flat_map, AllByRecursion}
-use Rattle.std.specs.Str.{is_utf8}
+use Rattle.std.proofs.Common.{◌≡◌, ℕ, zero, suc, ◌+◌, ◌^◌, ◌<◌, ◌≤◌, Bool, true, false, cond, nat_lt, List, [], ◌∷◌, ◌++◌, length, drop, Result, Ok, Err, Option, Some, None, refl, sym, ap, subst, ◌∙◌, append_assoc, append-nil, arith, inl, inr, ◌⊎◌, codes, decimal, take-append-drop, length-append, ltb-true, nat_eq}
+use Rattle.std.specs.List.{flat_map}
 use Rattle.std.specs.Str.Parse.{digits_value}
-use Rattle.std.specs.Cmp.Lexicographic.{pointwise}
 use Rattle.std.proofs.lemmas.Bool.{cases_Bool, and_parts, eqb-true}
 use Rattle.std.proofs.lemmas.Bool.Decides.{Decides-eqb}
 use Rattle.std.proofs.lemmas.Slice.Eq.{starts_is}
-use Rattle.std.proofs.lemmas.Str.{IsUtf8-from_is_utf8}
-use Rattle.cbor_core.specs.declared.item.Item.{Item, out-Item}
-use Rattle.cbor_core.specs.declared.item.Item.TheVariants as i
-use Rattle.cbor_core.specs.declared.item.Pair.{Pair}
 use Rattle.cbor_core.specs.Place.{Place, skip}
-use Rattle.cbor_core.specs.Spelling.{spelling, bytes_below, KeysAscend, IsBytes, IsSpellable}
-use Rattle.cbor_core.proofs.Levels.{IsWholeBy, to_spellable}
-use Rattle.diag_text.specs.Printed.{hex_byte, escaped, listed, word, printed, pair_printed}
-use Rattle.diag_text.specs.Reading.{Outcome, Reader, ◌>>=◌, begins, behind, digits, same, value_below, if_decimal, number_of, number_by, number_at, hex_guess, text_guess, pieces_at, bytes_at, text_at, parts_at, inside_at, last_key, key_at, pair_at, array_at, map_at, tag_at, number_or_tag, negative_by, negative_at, text_by, string_at, plain_at, item_by, item_at}
-use Rattle.diag_text.proofs.Texts.{printed_Unsigned, printed_Negative, printed_Bytes, printed_Text, printed_Array, printed_Map, printed_Tag, printed_Truth, printed_Null, pair_printed_out}
+use Rattle.cbor_core.specs.Spelling.{IsBytes}
+use Rattle.diag_text.specs.Printed.{listed}
+use Rattle.diag_text.specs.Reading.{Outcome, Reader, ◌>>=◌, begins, behind, digits, same, if_decimal, number_of, number_by, number_at, pieces_at, parts_at}
 use Rattle.diag_text.proofs.Digits.{take_digits}
 
 -- ---- tools
