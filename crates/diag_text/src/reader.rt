@@ -252,8 +252,9 @@ fn read_alone(alloc: Global, text: &[u8]) -> Result<Item, DiagFault>
 
 /// Reads the proper item whose one diagnostic text this is, as `print` writes it.
 ///
-/// `Bad` names the place of the first fault, in bytes. `NoMemory` may come for any text. The work is
-/// linear in the text, and nothing recurses deeper than 16 containers.
+/// `Bad` comes exactly where no proper item has this text, unless `NoMemory` comes, as it may for any
+/// text. It names the offset, in bytes, at which the text was given up. The work is linear in the text,
+/// and nothing recurses deeper than 16 containers.
 pub fn read(alloc: Global, text: &str) -> Result<Item, DiagFault>
     // What is found has this text.
     ensures found { IfOk result (λ x. Prints x text.now) }
