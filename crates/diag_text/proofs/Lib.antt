@@ -1,2 +1,10 @@
 pub mod Characters
 pub mod Texts
+pub mod Depths
+pub mod Digits
+pub mod Takes
+pub mod Loops
+pub mod Found
+pub mod Again
+pub mod Reread
+pub mod Exact

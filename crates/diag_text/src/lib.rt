@@ -1,11 +1,17 @@
-//! Diagnostic text of CBOR items (after RFC 8949, section 8).
+//! Diagnostic text of CBOR items (after RFC 8949, section 8), exact in both ways.
 //!
-//! `print` writes the one text of a proper item.
+//! `print` writes the one text of a proper item, and `read` reads exactly those texts.
 #![tactic(auto)]
 
+mod cursor;
+mod fault;
 mod printer;
+mod reader;
+mod scan;
 #[cfg(test)]
 mod tests;
 
 pub use cbor_core::{Boxed, Item, List, NoMemory, Octets, OrMemory, Pair, Utf8};
+pub use fault::{DiagFault, TextFault};
 pub use printer::print;
+pub use reader::read;

@@ -1,4 +1,4 @@
-use crate::print;
+use crate::{DiagFault, TextFault, print, read};
 use cbor_core::decode_whole;
 use std::test::Fail;
 
@@ -44,6 +44,62 @@ fn items_have_their_texts(rt: HostRuntime) -> Result<(), Fail> {
         let item = decode_whole(alloc, bytes)?;
         let printed = print(alloc, &item)?;
         assert_eq!(rt; printed.as_str(), *text);
+        assert!(rt; read(alloc, *text)? == item);
     }
+    Ok(())
+}
+
+/// A text that is refused, and the place of its first fault.
+struct Refused(&'static str, usize);
+
+/// Texts of each kind of fault.
+const REFUSED: [Refused; 30] = [
+    Refused("", 0),
+    Refused("x", 0),
+    Refused("tru", 0),
+    Refused("truex", 4),
+    Refused(" 1", 0),
+    Refused("01", 0),
+    Refused("-0", 0),
+    Refused("-", 0),
+    Refused("1.0", 1),
+    Refused("1 ", 1),
+    Refused("18446744073709551616", 0),
+    Refused("-18446744073709551617", 0),
+    Refused("-18(1)", 3),
+    Refused("h'0A'", 0),
+    Refused("h'0'", 0),
+    Refused("h'00", 0),
+    Refused("\"a", 0),
+    Refused("\"\\u000A\"", 0),
+    Refused("\"\\u0041\"", 0),
+    Refused("[1,2]", 2),
+    Refused("[1,", 2),
+    Refused("[1, ", 4),
+    Refused("[1, ]", 4),
+    Refused("[1", 2),
+    Refused("]", 0),
+    Refused("{1: -1,\"a\": 0}", 6),
+    Refused("{2: 0, 1: 0}", 7),
+    Refused("{2: 0, 1x", 7),
+    Refused("{1:0}", 2),
+    Refused("18(1", 4),
+];
+
+#[test]
+fn faults_have_their_places(rt: HostRuntime) -> Result<(), Fail> {
+    let alloc = rt.alloc();
+    for Refused(text, at) in REFUSED.iter() {
+        assert!(rt; read(alloc, *text) == Err(DiagFault::Bad(TextFault { at: *at })));
+    }
+    Ok(())
+}
+
+#[test]
+fn sixteen_containers_are_read(rt: HostRuntime) -> Result<(), Fail> {
+    let alloc = rt.alloc();
+    assert!(rt; read(alloc, "[[[[[[[[[[[[[[[[]]]]]]]]]]]]]]]]").is_ok());
+    let deep = read(alloc, "[[[[[[[[[[[[[[[[[]]]]]]]]]]]]]]]]]");
+    assert!(rt; deep == Err(DiagFault::Bad(TextFault { at: 16 })));
     Ok(())
 }
