@@ -2,3 +2,4 @@ pub mod Rows
 pub mod Options
 pub mod Messages
 pub mod Reading
+pub mod Law

@@ -8,6 +8,7 @@
 mod fault;
 mod forms;
 mod labels;
+mod laws;
 mod message;
 mod operation;
 mod options;
@@ -15,6 +16,8 @@ mod read;
 mod read_options;
 mod reported;
 mod requested;
+#[cfg(test)]
+mod tests;
 
 pub use message::Message;
 pub use options::Options;
@@ -22,3 +25,4 @@ pub use reported::Reported;
 pub use requested::Requested;
 pub use operation::{Operation, Profile, Suite};
 pub use fault::MessageFault;
+pub use laws::exactly_one;
