@@ -10,10 +10,12 @@ mod form;
 mod id;
 mod list;
 mod simple;
+#[cfg(test)]
+mod tests;
 
 pub use fault::FormFault;
+pub use field::{has_keys_among, other_pairs, read_field, read_needed};
 pub use form::Form;
-pub use simple::{Anything, ByteString, TextString, Truth, Unsigned};
 pub use id::Id;
 pub use list::ListOf;
-pub use field::{has_keys_among, other_pairs, read_field, read_needed};
+pub use simple::{Anything, ByteString, TextString, Truth, Unsigned};

@@ -1,18 +1,17 @@
 -- Bytes are one message, or have one refusal, and never both.
-use Rattle.std.proofs.Common.{◌≡◌, ◌⊎◌, ℕ, ◌≤◌, ◌<◌, List, [], ◌++◌, length, take, refl, ap, sym, ◌∙◌, arith, inl, inr}
+use Rattle.std.proofs.Common.{◌≡◌, ◌⊎◌, ℕ, ◌≤◌, List, [], length, take, refl, ap, sym, ◌∙◌, arith, inl, inr}
 use Rattle.std.specs.Prelude.{Option, Some, None}
 use Rattle.std.proofs.lemmas.Bool.{cases_lt}
 use Rattle.std.proofs.lemmas.List.{append-nil, take_at}
 use Rattle.cbor_core.specs.declared.item.Item.{Item}
-use Rattle.cbor_core.specs.declared.fault.Fault.{Fault}
 use Rattle.cbor_core.specs.declared.fault.Why.TheVariants as why
-use Rattle.cbor_core.specs.Spelling.{IsBytes, Spells}
-use Rattle.cbor_core.specs.Law.{SpellsFront, IsFaultyWhole, OneItem, OneFault}
+use Rattle.cbor_core.specs.Spelling.{Spells}
+use Rattle.cbor_core.specs.Law.{SpellsFront, OneItem, OneFault}
 use Rattle.cbor_core.proofs.Inputs.{exactly_one as one_of_two}
 use Rattle.teep_messages.specs.declared.message.Message.{Message}
 use Rattle.teep_messages.specs.declared.fault.MessageFault.{MessageFault}
 use Rattle.teep_messages.specs.declared.fault.MessageFault.TheVariants.{Cbor}
-use Rattle.teep_messages.specs.Messages.{ItemIs, MessageIs, RefusedAs, wrong_item}
+use Rattle.teep_messages.specs.Messages.{MessageIs, RefusedAs, wrong_item}
 use Rattle.teep_messages.specs.Law.{OneMessage, OneRefusal, ExactlyOne}
 use Rattle.teep_messages.proofs.Exact.{one_message, one_refusal, not_both}
 use Rattle.teep_messages.proofs.There.{item_there}

@@ -1,5 +1,5 @@
 -- What is wrong with an item is told by Kind, Shape or Size.
-use Rattle.std.proofs.Common.{◌≡◌, ℕ, Bool, true, false, List, [], ◌∷◌, length, refl, cond, subst}
+use Rattle.std.proofs.Common.{◌≡◌, ℕ, Bool, true, false, List, [], ◌∷◌, length, cond, subst}
 use Rattle.std.specs.Prelude.{Option, Some, None, ◌&&◌, ◌||◌, ◌==◌, nat_le}
 use Rattle.cbor_core.specs.declared.item.Item.{Item}
 use Rattle.cbor_core.specs.declared.item.Pair.{Pair}
@@ -11,7 +11,7 @@ use Rattle.cbor_core.specs.Spelling.{Spells}
 use Rattle.teep_messages.specs.declared.fault.MessageFault.{MessageFault}
 use Rattle.teep_messages.specs.declared.fault.MessageFault.TheVariants.{Cbor, Kind, Shape, Size, NoMemory}
 use Rattle.teep_messages.specs.Options.{◌>>◌, misshapen, missized, wrong_options, wrong_map}
-use Rattle.teep_messages.specs.Messages.{RefusedAs, wrong_question, wrong_plain, wrong_error, wrong_parts, wrong_behind, wrong_array, wrong_item}
+use Rattle.teep_messages.specs.Messages.{RefusedAs, wrong_question, wrong_plain, wrong_error, wrong_behind, wrong_array, wrong_item}
 
 abbrev IsOwn : Option MessageFault → Type 0
 IsOwn None = Unit {0}

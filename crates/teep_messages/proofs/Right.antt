@@ -1,17 +1,16 @@
 -- Nothing is wrong with what is a message.
-use Rattle.std.proofs.Common.{◌≡◌, ℕ, ◌≤◌, Bool, true, false, List, [], ◌∷◌, length, refl, ap, ◌∙◌, cond}
-use Rattle.std.specs.Prelude.{Option, Some, None, ◌&&◌, nat_le}
+use Rattle.std.proofs.Common.{◌≡◌, ℕ, true, List, [], ◌∷◌, length, refl, ap, ◌∙◌}
+use Rattle.std.specs.Prelude.{Option, Some, None, nat_le}
 use Rattle.std.proofs.lemmas.Bool.{le-leb}
 use Rattle.cbor_core.specs.declared.item.Item.{Item}
 use Rattle.cbor_core.specs.declared.item.Pair.{Pair}
-use Rattle.cbor_core.specs.Views.{unsigned_of, array_of, map_of}
+use Rattle.cbor_core.specs.Views.{map_of}
 use Rattle.teep_messages.specs.declared.options.Options.{Options}
 use Rattle.teep_messages.specs.declared.message.Message.{Message}
 use Rattle.teep_messages.specs.declared.message.Message.TheVariants.{QueryRequest, QueryResponse, Update, Success, Error}
-use Rattle.teep_messages.specs.declared.fault.MessageFault.{MessageFault}
 use Rattle.teep_messages.specs.Options.{IsSized, OptionsAre, OptionsIs, misshapen, missized, wrong_options, wrong_map}
 use Rattle.teep_messages.proofs.First.{next}
-use Rattle.teep_messages.specs.Messages.{ItemIs, PartsAre, number_of, wrong_four, wrong_two, wrong_parts, wrong_behind, wrong_array, wrong_item}
+use Rattle.teep_messages.specs.Messages.{ItemIs, PartsAre, number_of, wrong_parts, wrong_behind, wrong_array, wrong_item}
 
 fits : {V : Type 0} (label : ℕ) (o : Option V) (value : V) → o ≡ Some value → misshapen label o ≡ None
 fits label o value is = ap (misshapen label) is

@@ -1,5 +1,5 @@
 -- Where nothing is wrong, there is a message.
-use Rattle.std.proofs.Common.{◌≡◌, ◌⊎◌, ℕ, ◌≤◌, Bool, true, false, List, [], ◌∷◌, length, refl, ap, sym, ◌∙◌, cond, inl, inr}
+use Rattle.std.proofs.Common.{◌≡◌, ℕ, Bool, true, false, List, [], ◌∷◌, length, refl, ap, sym, ◌∙◌, cond}
 use Rattle.std.specs.Prelude.{Option, Some, None, ◌&&◌, ◌||◌, ◌==◌, nat_le}
 use Rattle.std.proofs.lemmas.Bool.{leb-true, eqb-true}
 use Rattle.cbor_core.specs.declared.item.Item.{Item}
@@ -47,38 +47,40 @@ pairs_there pairs e0 =
     let evidence_format = there 13 _ e9.0 in
     let requested = there 14 _ e10.0 in
     let unneeded = there 15 _ e11.0 in
-    let token = there_sized 20 _ _ _ e11.1 in
-    (record {
-      challenge = challenge.0;
-      versions = versions.0;
-      selected = selected.0;
-      evidence = evidence.0;
-      reported = reported.0;
-      manifests = manifests.0;
-      msg = msg.0;
-      err_msg = err_msg.0;
-      evidence_format = evidence_format.0;
-      requested = requested.0;
-      unneeded = unneeded.0;
-      token = token.0;
-      other = others labels pairs;
-    }, record {
-      challenge = challenge.1;
-      challenge_size = challenge.2;
-      versions = versions.1;
-      selected = selected.1;
-      evidence = evidence.1;
-      reported = reported.1;
-      manifests = manifests.1;
-      msg = msg.1;
-      err_msg = err_msg.1;
-      evidence_format = evidence_format.1;
-      requested = requested.1;
-      unneeded = unneeded.1;
-      token = token.1;
-      token_size = token.2;
-      other = refl;
-    })
+    let token = there_sized 20 _ _ _ e11.1 in (
+      record {
+        challenge = challenge.0;
+        versions = versions.0;
+        selected = selected.0;
+        evidence = evidence.0;
+        reported = reported.0;
+        manifests = manifests.0;
+        msg = msg.0;
+        err_msg = err_msg.0;
+        evidence_format = evidence_format.0;
+        requested = requested.0;
+        unneeded = unneeded.0;
+        token = token.0;
+        other = others labels pairs;
+      },
+      record {
+        challenge = challenge.1;
+        challenge_size = challenge.2;
+        versions = versions.1;
+        selected = selected.1;
+        evidence = evidence.1;
+        reported = reported.1;
+        manifests = manifests.1;
+        msg = msg.1;
+        err_msg = err_msg.1;
+        evidence_format = evidence_format.1;
+        requested = requested.1;
+        unneeded = unneeded.1;
+        token = token.1;
+        token_size = token.2;
+        other = refl;
+      },
+    )
 
 map_there : (o : Item) (pairs : Option (List Pair)) → map_of o ≡ pairs → wrong_map pairs ≡ None → (v : Options) × OptionsIs o v
 map_there o None is e = cc

@@ -1,6 +1,6 @@
 -- What is read of bytes as a whole.
-use Rattle.std.proofs.Common.{◌≡◌, ◌⊎◌, ℕ, List, refl, ap, sym, ◌∙◌, subst, inl, inr}
-use Rattle.std.specs.Prelude.{Option, Some, None, Result, Ok, Err}
+use Rattle.std.proofs.Common.{◌≡◌, ◌⊎◌, ℕ, List, refl, ap, sym, subst, inl, inr}
+use Rattle.std.specs.Prelude.{Option, None, Result, Ok, Err}
 use Rattle.cbor_core.specs.declared.item.Item.{Item}
 use Rattle.cbor_core.specs.Spelling.{Spells}
 use Rattle.teep_messages.specs.declared.message.Message.{Message}

@@ -1,5 +1,5 @@
 -- The options of a message: one row for each label of the table, and what is kept of all other labels.
-use Rattle.std.specs.Prelude.{ℕ, Bool, ◌≡◌, ◌≤◌, ◌&&◌, nat_le, List, [], ◌∷◌, length, Option, Some, None, if◌then◌else◌}
+use Rattle.std.specs.Prelude.{ℕ, ◌≡◌, ◌≤◌, ◌&&◌, nat_le, List, [], ◌∷◌, length, Option, Some, None, if◌then◌else◌}
 use Rattle.base_types.specs.declared.limits.TheConstants.{CHALLENGE_LEAST, CHALLENGE_LIMIT, TOKEN_LEAST, TOKEN_LIMIT}
 use Rattle.cbor_core.specs.declared.item.Item.{Item}
 use Rattle.cbor_core.specs.declared.item.Pair.{Pair}

@@ -19,10 +19,10 @@ mod requested;
 #[cfg(test)]
 mod tests;
 
+pub use fault::MessageFault;
+pub use laws::exactly_one;
 pub use message::Message;
+pub use operation::{Operation, Profile, Suite};
 pub use options::Options;
 pub use reported::Reported;
 pub use requested::Requested;
-pub use operation::{Operation, Profile, Suite};
-pub use fault::MessageFault;
-pub use laws::exactly_one;

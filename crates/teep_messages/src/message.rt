@@ -1,9 +1,6 @@
-
 use crate::operation::{Profile, Suite};
 use crate::options::Options;
 use base_types::List;
-
-
 
 /// A message of this product's profile of the TEEP protocol.
 #[derive(Debug, Drop, Eq, PartialEq)]
@@ -16,11 +13,20 @@ pub enum Message {
         items: u64,
     },
     /// An agent's answer to a question.
-    QueryResponse { options: Options },
+    QueryResponse {
+        options: Options,
+    },
     /// A manager's order to install and remove.
-    Update { options: Options },
+    Update {
+        options: Options,
+    },
     /// An agent's report that an order was carried out.
-    Success { options: Options },
+    Success {
+        options: Options,
+    },
     /// An agent's report of what went wrong, by a number.
-    Error { options: Options, code: u64 },
+    Error {
+        options: Options,
+        code: u64,
+    },
 }

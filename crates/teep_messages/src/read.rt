@@ -57,9 +57,15 @@ fn read_parts(alloc: Global, kind: u64, parts: &[Item]) -> Result<Message, Messa
 {
     match kind {
         1 => read_question(alloc, parts),
-        2 => Ok(Message::QueryResponse { options: read_plain(alloc, parts)? }),
-        3 => Ok(Message::Update { options: read_plain(alloc, parts)? }),
-        5 => Ok(Message::Success { options: read_plain(alloc, parts)? }),
+        2 => Ok(Message::QueryResponse {
+            options: read_plain(alloc, parts)?,
+        }),
+        3 => Ok(Message::Update {
+            options: read_plain(alloc, parts)?,
+        }),
+        5 => Ok(Message::Success {
+            options: read_plain(alloc, parts)?,
+        }),
         6 => read_error(alloc, parts),
         _ => Err(MessageFault::Kind(kind)),
     }
@@ -70,9 +76,7 @@ fn read_question(alloc: Global, parts: &[Item]) -> Result<Message, MessageFault>
     ensures { Judges (wrong_question parts.now) (IsQuestion parts.now) result }
 {
     match parts {
-        [options, suites, profiles, items] => {
-            read_four(alloc, options, suites, profiles, items)
-        }
+        [options, suites, profiles, items] => { read_four(alloc, options, suites, profiles, items) }
         _ => Err(MessageFault::Shape { field: MESSAGE }),
     }
 }

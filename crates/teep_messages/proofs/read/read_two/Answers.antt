@@ -1,5 +1,5 @@
 use Rattle.std.proofs.lemmas.Result.{err_from_is_err_and}
-use Rattle.teep_messages.proofs.First.{stop, skip}
+use Rattle.teep_messages.proofs.First.{skip}
 use Rattle.teep_messages.proofs.read.read_two.Goals as goal
 
 pub returns-in_err-code : goal.returns-in_err-code
