@@ -9,6 +9,7 @@ mod event;
 mod fault;
 mod refusal;
 mod reply;
+mod response;
 #[cfg(test)]
 mod tests;
 

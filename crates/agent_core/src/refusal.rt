@@ -6,18 +6,21 @@ ghost use Rattle.agent_core.specs.Refusals.{number_of};
 pub enum Refusal {
     /// The event is no message.
     Kind,
-    /// The message is no question.
+    /// The bytes are no message, or a question without a token.
     NotMessage,
+    /// The message is of a kind that no agent is sent.
+    NotForAgent,
 }
 
 impl Refusal {
-    /// The number that the refusal is told by: 1 for `Kind`, 4 for `NotMessage`.
+    /// The number that the refusal is told by: 1 for `Kind`, 4 for `NotMessage`, 5 for `NotForAgent`.
     pub fn number(self) -> u8
         ensures { result ≡ number_of self }
     {
         match self {
             Refusal::Kind => 1,
             Refusal::NotMessage => 4,
+            Refusal::NotForAgent => 5,
         }
     }
 }

@@ -43,26 +43,23 @@ fn a_question_is_answered(rt: HostRuntime) -> Result<(), Fail> {
 #[test]
 fn other_events_are_refused(rt: HostRuntime) -> Result<(), Fail> {
     let alloc = rt.alloc();
-    let bodies = [QUESTION.as_slice(), &QUESTION[..24], &[]];
+    // A question that is cut; the Update [3, {}]; [1, {}, [], [], 0], which has no token; kind 4.
+    let table: [(u8, &[u8], u8); 8] = [
+        (1, &QUESTION[..24], 4),
+        (1, &[], 4),
+        (1, &[0x82, 0x03, 0xa0], 5),
+        (1, &[0x85, 0x01, 0xa0, 0x80, 0x80, 0x00], 4),
+        (1, &[0x82, 0x04, 0xa0], 4),
+        (2, &QUESTION, 1),
+        (3, &[], 1),
+        (4, &QUESTION, 1),
+    ];
     let mut agent = Agent::new();
-    for (kind, numbers) in [
-        (1, [0, 4, 4]),
-        (2, [1, 1, 1]),
-        (3, [1, 1, 1]),
-        (4, [1, 1, 1]),
-    ] {
-        for (at, number) in numbers.iter().enumerate() {
-            let event = event_of(kind, Octets::from_slice(alloc, bodies[at])?);
-            let reply = agent.deliver(alloc, &event)?;
-            if *number > 0 {
-                let want = [0x82, 0, 0, 0, 1, *number];
-                assert_eq!(rt;
-                    reply.frame.as_slice(),
-                    want.as_slice(),
-                    "kind {kind}, body {at}"
-                );
-            }
-        }
+    for (at, (kind, body, number)) in table.iter().enumerate() {
+        let event = event_of(*kind, Octets::from_slice(alloc, body)?);
+        let reply = agent.deliver(alloc, &event)?;
+        let want = [0x82, 0, 0, 0, 1, *number];
+        assert_eq!(rt; reply.frame.as_slice(), want.as_slice(), "row {at}");
     }
     Ok(())
 }

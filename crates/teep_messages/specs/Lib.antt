@@ -1,1 +1,5 @@
-pub mod Forms
+pub mod Rows
+pub mod Options
+pub mod Messages
+pub mod Reading
+pub mod Law

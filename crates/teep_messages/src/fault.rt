@@ -1,12 +1,25 @@
 use base_types::NoMemory;
+use cbor_core::{CborFault, Fault};
 use thiserror::Error;
 
 /// Why bytes are not read as a message.
 #[derive(Clone, Copy, Debug, Eq, Error, PartialEq)]
 pub enum MessageFault {
-    /// The bytes are not of a form that is known here.
-    #[error("the bytes are not a message that is known")]
-    NotBuilt,
+    /// The bytes spell no item, and this is their first fault.
+    #[error("no CBOR item: {0}")]
+    Cbor(Fault),
+    /// The first item is none of the numbers 1, 2, 3, 5 and 6.
+    #[error("no kind of message has the number {0}")]
+    Kind(u64),
+    /// A part has another shape. `field` is the label of an option, 100 for the message as a whole,
+    /// 101 for the options, 102 for the suites, 103 for the profiles, 104 for the items, and 105 for
+    /// the code.
+    #[error("the field {field} has another shape")]
+    Shape { field: u64 },
+    /// The option with the label `field` is a byte string that is too short or too long.
+    #[error("the field {field} has another size")]
+    Size { field: u64 },
+    /// No memory was left.
     #[error("no memory is left")]
     NoMemory,
 }
@@ -19,5 +32,18 @@ impl From<NoMemory> for MessageFault {
 
     fn from(_: NoMemory) -> MessageFault {
         MessageFault::NoMemory
+    }
+}
+
+impl From<CborFault> for MessageFault {
+    ghost use Rattle.teep_messages.specs.Reading.{FromCbor};
+
+    ghost from_gives = { FromCbor };
+
+    fn from(fault: CborFault) -> MessageFault {
+        match fault {
+            CborFault::Bad(fault) => MessageFault::Cbor(fault),
+            CborFault::NoMemory => MessageFault::NoMemory,
+        }
     }
 }

@@ -1,13 +1,28 @@
-//! Messages between a device's agent and its manager, read from bytes and written to bytes.
+//! Messages of the TEEP protocol (RFC 9397's architecture) between a device's agent and its manager,
+//! read from bytes and written to bytes.
 //!
-//! Two messages of the Trusted Execution Environment Provisioning protocol, each in one spelling:
-//! the QueryRequest that is read and the QueryResponse that is written.
+//! A message is a kind, its options by their labels, and for a question and an error a little more.
+//! Labels that are not known are kept.
 #![tactic(auto)]
 
 mod fault;
+mod forms;
+mod labels;
+mod laws;
 mod message;
+mod operation;
+mod options;
+mod read;
+mod read_options;
+mod reported;
+mod requested;
 #[cfg(test)]
 mod tests;
 
 pub use fault::MessageFault;
+pub use laws::exactly_one;
 pub use message::Message;
+pub use operation::{Operation, Profile, Suite};
+pub use options::Options;
+pub use reported::Reported;
+pub use requested::Requested;

@@ -1,71 +1,167 @@
 use crate::{Message, MessageFault};
 use base_types::{Octets, OrMemory};
+use cbor_core::{Fault, Item, Why};
 use std::alloc::Global;
 use std::test::Fail;
 
-// [1, {20: h'0102030405060708'}, [[[18, -46]]], [[-16, -46]], 2]
-const QUESTION: [u8; 25] = [
-    0x85, 0x01, 0xa1, 0x14, 0x48, 1, 2, 3, 4, 5, 6, 7, 8, 0x81, 0x81, 0x82, 0x12, 0x38, 0x2d, 0x81,
-    0x82, 0x2f, 0x38, 0x2d, 0x02,
-];
+// Of a value that is read.
+const GOOD: Option<MessageFault> = None;
 
-// A question whose token is so many bytes of 7.
-fn question(alloc: Global, size: u8, items: u8) -> OrMemory<Octets> {
-    let mut bytes = Octets::from_slice(alloc, &QUESTION[..4])?;
-    bytes.push(0x40u8.wrapping_add(size))?;
-    for _ in 0..size {
-        bytes.push(7)?;
-    }
-    bytes.extend(&QUESTION[13..24])?;
-    bytes.push(items)?;
+// What is wrong with bytes.
+fn fault_of(alloc: Global, bytes: &[u8]) -> Option<MessageFault> {
+    Message::read(alloc, bytes).err()
+}
+
+// The Update [3, {label: value}].
+fn update(alloc: Global, option: &[u8]) -> OrMemory<Octets> {
+    let mut bytes = Octets::from_slice(alloc, &[0x82, 0x03, 0xa1])?;
+    bytes.extend(option)?;
     Ok(bytes)
 }
 
-#[test]
-fn each_byte_of_a_question_counts(rt: HostRuntime) -> Result<(), Fail> {
-    let alloc = rt.alloc();
-    let token = Octets::from_slice(alloc, &QUESTION[5..13])?;
-    let message = Message::read(alloc, &QUESTION)?;
-    assert!(rt; message == Message::QueryRequest { token, items: 2 });
-    for at in 0..25usize {
-        let mut bytes = QUESTION;
-        bytes[at] ^= 0x80;
-        let is_token = 5 <= at && at < 13;
-        let read = Message::read(alloc, &bytes);
-        assert_eq!(rt; read.is_ok(), is_token, "byte {at}");
-    }
-    let cut = Message::read(alloc, &QUESTION[..24]).err();
-    assert_eq!(rt; cut, Some(MessageFault::NotBuilt));
-    Ok(())
+fn shape(field: u64) -> Option<MessageFault> {
+    Some(MessageFault::Shape { field })
+}
+
+fn size(field: u64) -> Option<MessageFault> {
+    Some(MessageFault::Size { field })
 }
 
 #[test]
-fn tokens_and_items_have_limits(rt: HostRuntime) -> Result<(), Fail> {
+fn options_have_their_shapes(rt: HostRuntime) -> Result<(), Fail> {
     let alloc = rt.alloc();
-    let table = [
-        (7, 0, false),
-        (8, 0, true),
-        (23, 0, true),
-        (24, 0, false),
-        (8, 0x17, true),
-        (8, 0x18, false),
+    let table: [(&[u8], Option<MessageFault>); 24] = [
+        (&[0x02, 0x48, 1, 2, 3, 4, 5, 6, 7, 8], GOOD),
+        (&[0x02, 0x00], shape(2)),
+        (&[0x02, 0x47, 1, 2, 3, 4, 5, 6, 7], size(2)),
+        (&[0x03, 0x82, 0x00, 0x01], GOOD),
+        (&[0x03, 0x81, 0x20], shape(3)),
+        (&[0x06, 0x00], GOOD),
+        (&[0x06, 0xf5], shape(6)),
+        (&[0x07, 0x40], GOOD),
+        (&[0x07, 0x60], shape(7)),
+        (&[0x0a, 0x80], GOOD),
+        (&[0x0a, 0x82, 0x40, 0x00], shape(10)),
+        (&[0x0b, 0x61, 0x61], GOOD),
+        (&[0x0b, 0x41, 0x61], shape(11)),
+        (&[0x0c, 0x60], GOOD),
+        (&[0x0c, 0xf6], shape(12)),
+        (&[0x0d, 0x60], GOOD),
+        (&[0x0d, 0x00], shape(13)),
+        (&[0x0f, 0x81, 0x81, 0x41, 0x01], GOOD),
+        (&[0x0f, 0x81, 0x80], shape(15)),
+        (&[0x0f, 0x81, 0x81, 0x00], shape(15)),
+        (&[0x14, 0x48, 1, 2, 3, 4, 5, 6, 7, 8], GOOD),
+        (&[0x14, 0x47, 1, 2, 3, 4, 5, 6, 7], size(20)),
+        (&[0x14, 0xf6], shape(20)),
+        (&[0x18, 0x40, 0xf6], GOOD),
     ];
-    for (size, items, good) in table {
-        let bytes = question(alloc, size, items)?;
-        let read = Message::read(alloc, bytes.as_slice());
-        assert_eq!(rt; read.is_ok(), good, "token of {size}, items {items}");
+    for (at, (option, want)) in table.iter().enumerate() {
+        let bytes = update(alloc, option)?;
+        assert_eq!(rt; fault_of(alloc, bytes.as_slice()), *want, "row {at}");
     }
     Ok(())
 }
 
 #[test]
-fn a_response_brings_its_token_back(rt: HostRuntime) -> Result<(), Fail> {
+fn manifests_that_are_named_have_exact_keys(rt: HostRuntime) -> Result<(), Fail> {
     let alloc = rt.alloc();
+    let table: [(&[u8], Option<MessageFault>); 9] = [
+        (&[0x08, 0x81, 0xa2, 0x10, 0x81, 0x41, 1, 0x11, 5], GOOD),
+        (&[0x08, 0x81, 0xa1, 0x10, 0x81, 0x41, 1], shape(8)),
+        (&[0x08, 0x81, 0xa1, 0x11, 5], shape(8)),
+        (
+            &[0x08, 0x81, 0xa3, 0x10, 0x81, 0x41, 1, 0x11, 5, 0x12, 0xf5],
+            shape(8),
+        ),
+        (&[0x0e, 0x81, 0xa1, 0x10, 0x81, 0x41, 1], GOOD),
+        (
+            &[0x0e, 0x81, 0xa3, 0x10, 0x81, 0x41, 1, 0x11, 5, 0x12, 0xf5],
+            GOOD,
+        ),
+        (&[0x0e, 0x81, 0xa2, 0x10, 0x81, 0x41, 1, 0x12, 5], shape(14)),
+        (&[0x0e, 0x81, 0xa2, 0x10, 0x81, 0x41, 1, 0x13, 5], shape(14)),
+        (&[0x0e, 0x81, 0xa1, 0x11, 5], shape(14)),
+    ];
+    for (at, (option, want)) in table.iter().enumerate() {
+        let bytes = update(alloc, option)?;
+        assert_eq!(rt; fault_of(alloc, bytes.as_slice()), *want, "row {at}");
+    }
+    Ok(())
+}
+
+#[test]
+fn the_first_refusal_comes(rt: HostRuntime) -> Result<(), Fail> {
+    let alloc = rt.alloc();
+    let long_form = Fault {
+        at: 0,
+        why: Why::LongForm,
+    };
+    let table: [(&[u8], Option<MessageFault>); 20] = [
+        (&[0x18, 0x00], Some(MessageFault::Cbor(long_form))),
+        (&[0x00], shape(100)),
+        (&[0x80], shape(100)),
+        (&[0x82, 0x40, 0xa0], shape(100)),
+        (&[0x82, 0x04, 0xa0], Some(MessageFault::Kind(4))),
+        (&[0x81, 0x04], Some(MessageFault::Kind(4))),
+        (&[0x81, 0x03], shape(100)),
+        (&[0x83, 0x03, 0xa0, 0x00], shape(100)),
+        (&[0x82, 0x03, 0x80], shape(101)),
+        (&[0x82, 0x03, 0xa2, 0x02, 0x40, 0x03, 0x40], size(2)),
+        (&[0x82, 0x03, 0xa2, 0x02, 0x00, 0x14, 0x40], shape(2)),
+        (&[0x85, 0x01, 0xa1, 0x14, 0x40, 0x00, 0x00, 0x40], size(20)),
+        (&[0x85, 0x01, 0xa0, 0x00, 0x00, 0x40], shape(102)),
+        (
+            &[0x85, 0x01, 0xa0, 0x81, 0x81, 0x81, 0x00, 0x80, 0x00],
+            shape(102),
+        ),
+        (&[0x85, 0x01, 0xa0, 0x80, 0x81, 0x80, 0x40], shape(103)),
+        (&[0x85, 0x01, 0xa0, 0x80, 0x80, 0x40], shape(104)),
+        (&[0x85, 0x01, 0xa0, 0x81, 0x80, 0x80, 0x00], GOOD),
+        (&[0x83, 0x06, 0xa0, 0x40], shape(105)),
+        (&[0x83, 0x06, 0xa0, 0x05], GOOD),
+        (&[0x82, 0x02, 0xa0], GOOD),
+    ];
+    for (at, (bytes, want)) in table.iter().enumerate() {
+        assert_eq!(rt; fault_of(alloc, bytes), *want, "row {at}");
+    }
+    Ok(())
+}
+
+#[test]
+fn a_token_has_64_bytes_at_most(rt: HostRuntime) -> Result<(), Fail> {
+    let alloc = rt.alloc();
+    for (count, want) in [(0x40u8, GOOD), (0x41, size(20))] {
+        let mut option = Octets::from_slice(alloc, &[0x14, 0x58, count])?;
+        for _ in 0..count {
+            option.push(7)?;
+        }
+        let bytes = update(alloc, option.as_slice())?;
+        assert_eq!(rt; fault_of(alloc, bytes.as_slice()), want);
+    }
+    Ok(())
+}
+
+#[test]
+fn fields_are_read_and_others_kept(rt: HostRuntime) -> Result<(), Fail> {
+    let alloc = rt.alloc();
+    // {10: [], 20: h'0102030405060708', 64: null, -1: 0}
+    let bytes = [
+        0x82, 0x03, 0xa4, 0x0a, 0x80, 0x14, 0x48, 1, 2, 3, 4, 5, 6, 7, 8, 0x18, 0x40, 0xf6, 0x20,
+        0x00,
+    ];
     let token = Octets::from_slice(alloc, &[1, 2, 3, 4, 5, 6, 7, 8])?;
-    let bytes = Message::QueryResponse { token }.write(alloc)?;
-    let want = [
-        0x82, 0x02, 0xa2, 0x06, 0x00, 0x14, 0x48, 1, 2, 3, 4, 5, 6, 7, 8,
-    ];
-    assert_eq!(rt; bytes.as_slice(), want.as_slice());
+    let message = Message::read(alloc, &bytes)?;
+    let Message::Update { options } = message else {
+        assert!(rt; false, "no Update");
+        return Ok(());
+    };
+    assert!(rt; options.token == Some(token));
+    assert!(rt; options.manifests.is_some() && options.challenge.is_none());
+    assert_eq!(rt; options.other.len(), 2);
+    if let [first, second] = options.other.as_slice() {
+        assert!(rt; first.key == Item::Unsigned(64) && first.value == Item::Null);
+        assert!(rt; second.key == Item::Negative(0));
+    }
     Ok(())
 }

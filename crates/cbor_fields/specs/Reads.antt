@@ -1,0 +1,10 @@
+-- What a reader of an item answers.
+use Rattle.std.specs.Prelude.{◌≡◌, Option, Some, None, Result, Ok, Err}
+use Rattle.cbor_fields.specs.declared.fault.FormFault.{FormFault}
+use Rattle.cbor_fields.specs.declared.fault.FormFault.TheVariants.{Shape, NoMemory}
+
+-- the value where there is one, Shape where there is none, or nothing is said for want of memory
+abbrev pub Reads : {A : Type 0} → Option A → Result A FormFault → Type 0
+Reads value (Ok a) = value ≡ Some a
+Reads value (Err Shape) = value ≡ None
+Reads value (Err NoMemory) = Unit {0}

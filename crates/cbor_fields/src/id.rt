@@ -1,0 +1,46 @@
+ghost use Rattle.std.specs.Prelude.{◌≡◌};
+ghost use Rattle.cbor_fields.specs.Views.{all_bytes, is_id, id_of};
+
+use crate::fault::FormFault;
+use crate::form::Form;
+use base_types::Octets;
+use cbor_core::{Item, encode};
+use std::alloc::Global;
+
+/// An identifier, an array of one or more byte strings, as its encoding.
+pub struct Id;
+
+impl Form<Octets> for Id {
+    ghost view = { id_of };
+
+    #[tactic(auto, using(crate::proofs::Ids::ids))]
+    fn read(alloc: Global, item: &Item) -> Result<Octets, FormFault> {
+        if is_identifier(item) {
+            Ok(encode(alloc, item)?)
+        } else {
+            Err(FormFault::Shape)
+        }
+    }
+}
+
+/// Whether an item is an array of one or more byte strings.
+fn is_identifier(item: &Item) -> bool
+    ensures { result ≡ is_id item.now }
+{
+    match item {
+        Item::Array(members) => !members.is_empty() && are_byte_strings(members.as_slice()),
+        _ => false,
+    }
+}
+
+/// Whether each item is a byte string.
+fn are_byte_strings(items: &[Item]) -> bool
+    ensures { result ≡ all_bytes items.now }
+{
+    for item in items {
+        if item.as_bytes().is_none() {
+            return false;
+        }
+    }
+    true
+}

@@ -1,0 +1,69 @@
+ghost use Rattle.std.specs.Prelude.{Some};
+ghost use Rattle.cbor_core.specs.Views.{unsigned_of, bytes_of, text_of, truth_of};
+
+use crate::fault::FormFault;
+use crate::form::Form;
+use base_types::{Octets, Utf8};
+use cbor_core::Item;
+use std::alloc::Global;
+
+/// An unsigned integer, as its number.
+pub struct Unsigned;
+
+impl Form<u64> for Unsigned {
+    ghost view = { unsigned_of };
+
+    fn read(_alloc: Global, item: &Item) -> Result<u64, FormFault> {
+        item.as_unsigned().ok_or(FormFault::Shape)
+    }
+}
+
+/// A byte string, as its bytes.
+pub struct ByteString;
+
+impl Form<Octets> for ByteString {
+    ghost view = { bytes_of };
+
+    fn read(alloc: Global, item: &Item) -> Result<Octets, FormFault> {
+        match item.as_bytes() {
+            Some(bytes) => Ok(Octets::from_slice(alloc, bytes)?),
+            None => Err(FormFault::Shape),
+        }
+    }
+}
+
+/// A text string, as its text.
+pub struct TextString;
+
+impl Form<Utf8> for TextString {
+    ghost view = { text_of };
+
+    fn read(alloc: Global, item: &Item) -> Result<Utf8, FormFault> {
+        match item.as_text() {
+            Some(text) => Ok(Utf8::from_str(alloc, text)?),
+            None => Err(FormFault::Shape),
+        }
+    }
+}
+
+/// False or true.
+pub struct Truth;
+
+impl Form<bool> for Truth {
+    ghost view = { truth_of };
+
+    fn read(_alloc: Global, item: &Item) -> Result<bool, FormFault> {
+        item.as_truth().ok_or(FormFault::Shape)
+    }
+}
+
+/// Any item, as itself.
+pub struct Anything;
+
+impl Form<Item> for Anything {
+    ghost view = { Some };
+
+    fn read(alloc: Global, item: &Item) -> Result<Item, FormFault> {
+        Ok(item.try_clone(alloc)?)
+    }
+}

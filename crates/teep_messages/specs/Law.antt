@@ -1,0 +1,23 @@
+-- What bytes as a whole are: a message, or refused in one way.
+use Rattle.std.specs.Prelude.{ℕ, ◌≡◌, ◌⊎◌, List}
+use Rattle.cbor_core.specs.Spelling.{IsBytes}
+use Rattle.teep_messages.specs.declared.message.Message.{Message}
+use Rattle.teep_messages.specs.declared.fault.MessageFault.{MessageFault}
+use Rattle.teep_messages.specs.Messages.{MessageIs, RefusedAs}
+
+-- the bytes are one message, and have no refusal
+pub record OneMessage (bytes : List ℕ) : Type 0 where
+  pub message : Message
+  pub message_is : MessageIs message bytes
+  pub alone : (other : Message) → MessageIs other bytes → other ≡ message
+  pub no_refusal : (fault : MessageFault) → RefusedAs bytes fault → ⊥
+
+-- the bytes have one refusal, and are no message
+pub record OneRefusal (bytes : List ℕ) : Type 0 where
+  pub fault : MessageFault
+  pub refused : RefusedAs bytes fault
+  pub alone : (other : MessageFault) → RefusedAs bytes other → other ≡ fault
+  pub no_message : (message : Message) → MessageIs message bytes → ⊥
+
+abbrev pub ExactlyOne : Type 0
+ExactlyOne = (bytes : List ℕ) → IsBytes bytes → OneMessage bytes ⊎ OneRefusal bytes
