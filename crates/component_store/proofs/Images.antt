@@ -6,7 +6,7 @@ use Rattle.std.proofs.lemmas.List.{length-append, take-append-drop, length-repli
 use Rattle.component_store.specs.declared.config.Config.{Config}
 use Rattle.component_store.specs.declared.config.TheConstants.{CONFIG_LIMIT}
 use Rattle.component_store.specs.Config.{ConfigIs}
-use Rattle.component_store.specs.Image.{IsHead, IsImage, head_bytes, region_size}
+use Rattle.component_store.specs.Image.{IsHead, IsImage, IsNewImage, head_bytes, region_size}
 use Rattle.component_store.proofs.Readers.{one_config}
 
 -- the zeros at the end of a head
@@ -79,3 +79,13 @@ module _ (image head : List ℕ) (front : head ≡ take 65536 image) where
           spelled = split;
           room = omega (arith, enough, ap length split, length-append (head_bytes bytes) (drop 65536 image), head_size bytes head_is.short);
         }
+
+-- a new image is that of its configuration
+pub new_image : (v : Config) (image : List ℕ) → IsNewImage v image → IsImage v image
+new_image v image new = record {
+  config = new.config;
+  is = new.is;
+  region = replicate {A = ℕ} (region_size v.quota) 0;
+  spelled = new.spelled;
+  room = omega (arith, length-replicate {A = ℕ} (region_size v.quota) 0);
+}

@@ -32,3 +32,7 @@ pub record IsNewImage (v : Config) (image : List ℕ) : Type 0 where
   pub config : List ℕ
   pub is : ConfigIs v config
   pub spelled : image ≡ head_bytes config ++ replicate (region_size v.quota) 0
+
+-- an image is that of one configuration
+abbrev pub OneImage : Type 0
+OneImage = (image : List ℕ) (v w : Config) → IsImage v image → IsImage w image → v ≡ w

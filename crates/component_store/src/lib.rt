@@ -7,6 +7,7 @@ mod config;
 mod fault;
 mod head;
 mod image;
+mod laws;
 mod load;
 mod read;
 #[cfg(test)]
@@ -17,4 +18,5 @@ pub use config::{CONFIG_LIMIT, Config, KEY_SEED_SIZE};
 pub use fault::{ConfigFault, MountFault};
 pub use head::{HEAD_SIZE, LAYOUT};
 pub use image::image_of;
+pub use laws::one_image;
 pub use load::load_config;
