@@ -1,22 +1,21 @@
 -- What is refused is faulty.
-use Rattle.std.proofs.Common.{◌≡◌, ℕ, zero, suc, ◌+◌, ◌^◌, ◌<◌, ◌≤◌, Bool, true, false, cond, List, [], ◌∷◌, ◌++◌, length, Ok, Err, Option, Some, None, refl, sym, ap, subst, ◌∙◌, append_assoc, arith, inl, inr, ◌⊎◌, codes, decimal, length-append}
-use Rattle.std.specs.List.{AllByRecursion}
+use Rattle.std.proofs.Common.{◌≡◌, ℕ, zero, suc, ◌^◌, ◌<◌, true, false, cond, List, [], ◌++◌, length, Ok, Err, Some, None, refl, sym, ap, subst, ◌∙◌, append_assoc, arith, inl, inr, ◌⊎◌, codes, decimal, length-append}
 use Rattle.cbor_core.specs.declared.item.Item.{Item}
 use Rattle.cbor_core.specs.declared.item.Item.TheVariants as i
 use Rattle.cbor_core.specs.declared.item.Pair.{Pair}
 use Rattle.cbor_core.specs.Place.{Place, skip}
-use Rattle.cbor_core.specs.Spelling.{spelling, bytes_below, KeysAscend, IsSpellable}
+use Rattle.cbor_core.specs.Spelling.{spelling, bytes_below, IsSpellable}
 use Rattle.cbor_core.specs.Faulty.{behind as place_behind, last_key}
 use Rattle.diag_text.specs.Printed.{printed, pair_printed}
-use Rattle.diag_text.specs.Reading.{Outcome, Reader, ◌>>=◌, begins, behind, parts_at, inside_at, member_at, key_at, pair_at, array_at, map_at, tag_at, item_by, item_at}
-use Rattle.diag_text.specs.Faulty.{Starts, Opens, Begins, followed, NeitherMark, WrongBehind, PartFault, ArrayFault, ColonFault, KeyFault, MapFault, TagFault, FaultyBy, Faulty}
-use Rattle.diag_text.proofs.Fronts.{begins_is, not_starts}
+use Rattle.diag_text.specs.Reading.{Reader, ◌>>=◌, begins, behind, parts_at, inside_at, member_at, key_at, pair_at, array_at, map_at, tag_at, item_by, item_at}
+use Rattle.diag_text.specs.Faulty.{Starts, Begins, followed, NeitherMark, WrongBehind, PartFault, ArrayFault, ColonFault, KeyFault, MapFault, TagFault, FaultyBy, Faulty}
+use Rattle.diag_text.proofs.Fronts.{not_starts}
 use Rattle.diag_text.proofs.Loops.{member_is}
-use Rattle.diag_text.proofs.Takes.{bind_ok, chosen, ok_is, held, err_is, not_err, bind_err, Took, took_then, took_fits, token_took, NumberTook, Chain}
+use Rattle.diag_text.proofs.Takes.{bind_ok, chosen, ok_is, held, err_is, not_err, bind_err, Took, took_then, took_fits, token_took, NumberTook}
 use Rattle.diag_text.proofs.Again.{place}
-use Rattle.diag_text.proofs.Found.{TakesBy, Taken, PairIs, PairTaken, chain_all, chain_pairs, chain_ascends, member_takes, pair_takes, pair_parts, item_takes}
+use Rattle.diag_text.proofs.Found.{TakesBy, Taken, PairIs, chain_all, chain_pairs, chain_ascends, member_takes, pair_takes, pair_parts, item_takes}
 use Rattle.diag_text.proofs.Level.{Level, level, scalar, nothing, square, curly, tagged, scalar_read, item_empty}
-use Rattle.diag_text.proofs.Halts.{behind_is, behind_then, Halts, Halted, Stopped, parts_stop}
+use Rattle.diag_text.proofs.Halts.{behind_is, behind_then, Halts, parts_stop}
 
 -- what a reader refuses is faulty
 abbrev pub FaultBy : Reader Item → (Place → ℕ → Type 0) → Type 0

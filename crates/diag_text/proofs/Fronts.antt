@@ -1,5 +1,5 @@
 -- What stands in front of a text, as a test and as a fact.
-use Rattle.std.proofs.Common.{◌≡◌, ℕ, Bool, true, false, List, [], ◌∷◌, ◌++◌, length, drop, refl, arith, inl, inr, codes}
+use Rattle.std.proofs.Common.{◌≡◌, ℕ, true, false, List, [], ◌∷◌, ◌++◌, length, drop, refl, inl, inr, codes}
 use Rattle.std.specs.Char.{is_ascii_digit}
 use Rattle.std.proofs.lemmas.Bool.{cases_Bool}
 use Rattle.std.proofs.lemmas.Bool.Decides.{Decides-eqb}
@@ -8,7 +8,7 @@ use Rattle.cbor_core.specs.declared.item.Item.{Item, out-Item}
 use Rattle.cbor_core.specs.declared.item.Item.TheOpen.{Item-F}
 use Rattle.cbor_core.specs.declared.item.Pair.{Pair}
 use Rattle.diag_text.specs.Reading.{begins}
-use Rattle.diag_text.specs.Faulty.{Starts, NoDigit, Stops, EndsBy, Ends}
+use Rattle.diag_text.specs.Faulty.{Starts, Stops, EndsBy, Ends}
 
 pub begins_is : (token bytes : List ℕ) → begins token bytes ≡ true → bytes ≡ token ++ drop (length token) bytes
 begins_is token bytes e = (starts_is Decides-eqb bytes token (begins token bytes) refl).0 e

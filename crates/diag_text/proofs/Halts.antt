@@ -1,9 +1,9 @@
 -- Where the parts of a container come to a halt.
-use Rattle.std.proofs.Common.{◌≡◌, ℕ, zero, suc, ◌+◌, ◌^◌, ◌<◌, ◌≤◌, Bool, true, false, cond, List, [], ◌∷◌, ◌++◌, length, Ok, Err, refl, sym, ap, subst, ◌∙◌, append_assoc, append-nil, arith, inl, inr, ◌⊎◌, codes, length-append}
+use Rattle.std.proofs.Common.{◌≡◌, ℕ, zero, suc, ◌+◌, ◌^◌, ◌<◌, ◌≤◌, false, cond, List, [], ◌∷◌, ◌++◌, length, Ok, Err, refl, sym, ap, subst, ◌∙◌, append_assoc, append-nil, arith, inl, inr, ◌⊎◌, codes, length-append}
 use Rattle.cbor_core.specs.Place.{Place, skip}
 use Rattle.cbor_core.specs.Faulty.{behind as place_behind}
-use Rattle.diag_text.specs.Reading.{Outcome, Reader, ◌>>=◌, begins, behind, parts_at}
-use Rattle.diag_text.specs.Faulty.{Stops, followed}
+use Rattle.diag_text.specs.Reading.{Reader, begins, behind, parts_at}
+use Rattle.diag_text.specs.Faulty.{followed}
 use Rattle.diag_text.proofs.Fronts.{stops_comma}
 use Rattle.diag_text.proofs.Takes.{chosen, err_is, not_err, bind_err, Took, took_then, took_fits, token_took, Chain}
 use Rattle.diag_text.proofs.Again.{place, IsMark, Each}

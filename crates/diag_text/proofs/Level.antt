@@ -1,5 +1,5 @@
 -- What the first bytes of an item lead its reader to.
-use Rattle.std.proofs.Common.{◌≡◌, ℕ, zero, suc, ◌+◌, ◌-◌, ◌^◌, ◌<◌, ◌≤◌, Bool, true, false, cond, nat_lt, List, [], ◌∷◌, ◌++◌, length, drop, Ok, Err, Option, Some, None, refl, sym, ap, subst, ◌∙◌, append_assoc, arith, inl, inr, codes, decimal}
+use Rattle.std.proofs.Common.{◌≡◌, ℕ, zero, suc, ◌+◌, ◌-◌, ◌^◌, ◌<◌, true, false, cond, nat_lt, List, [], ◌∷◌, ◌++◌, length, drop, Ok, Err, Option, Some, None, refl, sym, ap, subst, ◌∙◌, append_assoc, arith, inl, inr, codes, decimal}
 use Rattle.std.specs.Char.{is_ascii_digit}
 use Rattle.std.specs.Str.{is_utf8}
 use Rattle.std.specs.Str.Parse.{AllDigits}
@@ -11,8 +11,8 @@ use Rattle.cbor_core.specs.declared.item.Item.TheVariants as i
 use Rattle.cbor_core.specs.Place.{Place, skip}
 use Rattle.cbor_core.proofs.Levels.{to_spellable}
 use Rattle.diag_text.specs.Printed.{hex_byte, escaped}
-use Rattle.diag_text.specs.Reading.{Outcome, Reader, ◌>>=◌, begins, digits, number_of, number_by, number_at, hex_guess, text_guess, pieces_at, bytes_at, text_at, array_at, map_at, tag_at, number_or_tag, negative_by, negative_at, text_by, string_at, item_by, item_at}
-use Rattle.diag_text.specs.Faulty.{Starts, HasScalar, HasTag, Opens}
+use Rattle.diag_text.specs.Reading.{Outcome, Reader, ◌>>=◌, begins, digits, number_of, number_by, number_at, hex_guess, text_guess, pieces_at, bytes_at, text_at, array_at, map_at, tag_at, number_or_tag, negative_by, text_by, item_by, item_at}
+use Rattle.diag_text.specs.Faulty.{HasScalar, HasTag, Opens}
 use Rattle.diag_text.proofs.Fronts.{begins_is, not_starts}
 use Rattle.diag_text.proofs.Texts.{printed_Truth, printed_Null}
 use Rattle.diag_text.proofs.Takes.{done, failed, chosen, err_is, not_err, NumberTook, number_takes}

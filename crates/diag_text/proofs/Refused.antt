@@ -1,14 +1,14 @@
 -- What is faulty is refused, at that place.
-use Rattle.std.proofs.Common.{◌≡◌, ℕ, zero, suc, ◌+◌, ◌^◌, ◌<◌, ◌≤◌, Bool, true, false, List, [], ◌∷◌, ◌++◌, length, Ok, Err, Option, Some, None, refl, sym, ap, subst, ◌∙◌, append_assoc, arith, inl, inr, ◌⊎◌, codes, decimal, length-append, ne_eqb}
+use Rattle.std.proofs.Common.{◌≡◌, ℕ, zero, suc, ◌+◌, ◌^◌, ◌<◌, true, false, List, [], ◌∷◌, ◌++◌, length, Ok, Err, Some, None, refl, sym, ap, subst, ◌∙◌, arith, inl, inr, ◌⊎◌, codes, decimal, length-append, ne_eqb}
 use Rattle.std.specs.List.{AllByRecursion}
 use Rattle.cbor_core.specs.declared.item.Item.{Item}
 use Rattle.cbor_core.specs.declared.item.Pair.{Pair}
 use Rattle.cbor_core.specs.Place.{Place, skip}
-use Rattle.cbor_core.specs.Spelling.{spelling, bytes_below, KeysAscend, IsSpellable}
+use Rattle.cbor_core.specs.Spelling.{spelling, bytes_below, IsSpellable}
 use Rattle.cbor_core.specs.Faulty.{behind as place_behind, last_key}
 use Rattle.diag_text.specs.Printed.{printed, pair_printed}
-use Rattle.diag_text.specs.Reading.{Outcome, Reader, ◌>>=◌, begins, behind, parts_at, inside_at, member_at, pair_at, array_at, map_at, tag_at, plain_at, item_by, item_at}
-use Rattle.diag_text.specs.Faulty.{Starts, Stands, HasTag, Begins, followed, NeitherMark, WrongBehind, PartFault, ArrayFault, ColonFault, KeyFault, MapFault, TagFault, FaultyBy, Faulty}
+use Rattle.diag_text.specs.Reading.{Outcome, Reader, ◌>>=◌, begins, behind, parts_at, inside_at, member_at, pair_at, tag_at, plain_at, item_by, item_at}
+use Rattle.diag_text.specs.Faulty.{Starts, Stands, HasTag, Begins, followed, NeitherMark, PartFault, ArrayFault, ColonFault, KeyFault, MapFault, TagFault, Faulty}
 use Rattle.diag_text.proofs.Fronts.{starts_of, not_begins}
 use Rattle.diag_text.proofs.Texts.{pair_printed_out}
 use Rattle.diag_text.proofs.Loops.{member_is}
