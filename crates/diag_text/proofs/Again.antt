@@ -4,21 +4,18 @@ use Rattle.std.specs.List.{flat_map, AllByRecursion}
 use Rattle.std.specs.Char.{is_ascii_digit}
 use Rattle.std.specs.Str.Parse.{AllDigits, digits_value}
 use Rattle.std.proofs.lemmas.Bool.{cases_lt, cases_eq, le-leb}
-use Rattle.std.proofs.lemmas.Bool.Decides.{Decides-eqb}
 use Rattle.std.proofs.lemmas.Fmt.{decimal_is_IsNumeral_wide}
 use Rattle.std.proofs.lemmas.List.Sums.{take_while-cons}
-use Rattle.std.proofs.lemmas.Slice.Eq.{starts_is}
 use Rattle.std.proofs.lemmas.Str.Parse.{digit_at}
 use Rattle.cbor_core.specs.Place.{Place, skip}
 use Rattle.diag_text.specs.Printed.{hex_digit, hex_byte, escaped, listed}
 use Rattle.diag_text.specs.Reading.{Outcome, begins, behind, digits, same, number_of, number_at, hex_value, hex_pair, hex_guess, text_guess, pieces_at, parts_at, Reader}
+use Rattle.diag_text.specs.Faulty.{NoDigit, Stops}
 use Rattle.diag_text.proofs.Characters.{plain}
+use Rattle.diag_text.proofs.Fronts.{begins_front, stops_by, stops_comma}
 
 abbrev pub place : ℕ → List ℕ → Place
 place b text = record { at = b; rest = text }
-
-pub begins_front : (token more : List ℕ) → begins token (token ++ more) ≡ true
-begins_front token more = (starts_is Decides-eqb (token ++ more) token (begins token (token ++ more)) refl).1 more refl
 
 pub skip_front : (b : ℕ) (token more : List ℕ) → skip (length token) (place b (token ++ more)) ≡ place (b + length token) more
 skip_front b token more = ap (λ (t : List ℕ). place (b + length token) t) (drop_at token more (length token) refl)
@@ -86,21 +83,12 @@ module _ (spell : ℕ → List ℕ) (guess : List ℕ → ℕ) (close : List ℕ
 
 -- ---- numbers
 
--- no digit and no opening bracket stands at the front
-abbrev pub Stops : List ℕ → Type 0
-Stops [] = Unit {0}
-Stops (c ∷ cs) = (is_ascii_digit c ≡ false) × (begins (codes "(") (c ∷ cs) ≡ false)
-
-pub digits_stop : (more : List ℕ) → Stops more → digits more ≡ []
+pub digits_stop : (more : List ℕ) → NoDigit more → digits more ≡ []
 digits_stop [] stop = refl
-digits_stop (c ∷ cs) stop = rw (take_while-cons is_ascii_digit c cs, stop.0) refl
+digits_stop (c ∷ cs) stop = rw (take_while-cons is_ascii_digit c cs, stop) refl
 
 pub digits_bracket : (more : List ℕ) → digits (40 ∷ more) ≡ []
 digits_bracket more = rw (take_while-cons is_ascii_digit 40 more) refl
-
-pub no_bracket : (more : List ℕ) → Stops more → begins (codes "(") more ≡ false
-no_bracket [] stop = refl
-no_bracket (c ∷ cs) stop = stop.1
 
 digits_front : (ds more : List ℕ) → AllDigits 10 ds → digits more ≡ [] → digits (ds ++ more) ≡ ds
 digits_front [] more all stop = stop
@@ -127,8 +115,8 @@ number_again at limit n b more lt wide stop =
 
 -- ---- parts
 
-abbrev pub AgainBy : {X : Type 0} → Reader X → (X → List ℕ) → X → Type 0
-AgainBy read text x = (b : ℕ) (more : List ℕ) → Stops more → read (place b (text x ++ more)) ≡ Ok (x, place (b + length (text x)) more)
+abbrev pub AgainBy : {X : Type 0} → Reader X → (X → List ℕ) → (List ℕ → Type 0) → X → Type 0
+AgainBy read text ends x = (b : ℕ) (more : List ℕ) → ends more → read (place b (text x ++ more)) ≡ Ok (x, place (b + length (text x)) more)
 
 -- a closing mark, behind which anything may stand
 pub record IsMark (close : List ℕ) : Type 0 where
@@ -136,16 +124,16 @@ pub record IsMark (close : List ℕ) : Type 0 where
   pub not_comma : (more : List ℕ) → begins close (codes ", " ++ more) ≡ false
 
 pub square : IsMark (codes "]")
-square = record { stops = λ more. (refl, refl); not_comma = λ more. refl }
+square = record { stops = λ more. stops_by 93 more refl refl; not_comma = λ more. refl }
 
 pub curly : IsMark (codes "}")
-curly = record { stops = λ more. (refl, refl); not_comma = λ more. refl }
+curly = record { stops = λ more. stops_by 125 more refl refl; not_comma = λ more. refl }
 
 module _ {X : Type 0} (part : List X → Reader X) (text : X → List ℕ) (close : List ℕ) (mark : IsMark close) where
   -- each part is read again behind those before it
   abbrev pub Each : List X → List X → Type 0
   Each found [] = Unit {0}
-  Each found (x ∷ xs) = AgainBy (part found) text x × Each (found ++ x ∷ []) xs
+  Each found (x ∷ xs) = AgainBy (part found) text Stops x × Each (found ++ x ∷ []) xs
 
   pub parts_again : (xs : List X) (x : X) (found : List X) (n b : ℕ) (more : List ℕ) → Each found (x ∷ xs) → length (x ∷ xs) ≤ n
       → parts_at part close n found (place b (listed text (x ∷ xs) ++ (close ++ more))) ≡ Ok (found ++ x ∷ xs, place (b + length (listed text (x ∷ xs) ++ close)) more)
@@ -162,7 +150,7 @@ module _ {X : Type 0} (part : List X → Reader X) (text : X → List ℕ) (clos
       let rest : List ℕ = listed text (y ∷ ys) in
       let tail : List ℕ = rest ++ (close ++ more) in
       let bytes : listed text (x ∷ y ∷ ys) ++ (close ++ more) ≡ text x ++ (codes ", " ++ tail) = append_assoc (text x) (codes ", " ++ rest) (close ++ more) in
-      let one = each.0 b (codes ", " ++ tail) (refl, refl) in
+      let one = each.0 b (codes ", " ++ tail) (stops_comma tail) in
       let others = parts_again ys y (found ++ x ∷ []) n (b + length (text x) + 2) more each.1 (omega arith) in
       let len : b + length (text x) + 2 + length (rest ++ close) ≡ b + length (listed text (x ∷ y ∷ ys) ++ close) =
       omega (arith, length-append (listed text (x ∷ y ∷ ys)) close, length-append (text x) (codes ", " ++ rest), length-append rest close) in

@@ -7,6 +7,7 @@ use Rattle.std.proofs.lemmas.Bool.{cases_Bool, and_parts, leb-true}
 use Rattle.std.proofs.lemmas.Str.{digit_value_digit}
 use Rattle.std.proofs.lemmas.Str.Parse.{digit_at}
 use Rattle.diag_text.specs.Reading.{digits, value_below}
+use Rattle.diag_text.specs.Faulty.{NoDigit}
 
 pub value_grows : (ds : List ℕ) (n : ℕ) → n ≤ digits_value_after 10 n ds
 value_grows [] n = omega arith
@@ -39,6 +40,14 @@ take_digits (b ∷ bytes) = elim (cases_Bool (is_ascii_digit b)) [
 
 pub digits_short : (bytes : List ℕ) → length (digits bytes) ≤ length bytes
 digits_short bytes = omega (arith, ap length (take_digits bytes), length-take (length (digits bytes)) bytes)
+
+-- no digit stands behind the digits
+pub no_digit_behind : (bytes : List ℕ) → NoDigit (drop (length (digits bytes)) bytes)
+no_digit_behind [] = tt
+no_digit_behind (b ∷ bytes) = elim (cases_Bool (is_ascii_digit b)) [
+  | inl here ↦ rw (take_while-cons is_ascii_digit b bytes, here) (no_digit_behind bytes)
+  | inr other ↦ rw (take_while-cons is_ascii_digit b bytes, other) other
+]
 
 pub ruleset fronts = (digits_all, take_digits, digits_short)
 

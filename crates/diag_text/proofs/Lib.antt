@@ -1,4 +1,5 @@
 pub mod Characters
+pub mod Fronts
 pub mod Texts
 pub mod Depths
 pub mod Digits
@@ -8,3 +9,7 @@ pub mod Found
 pub mod Again
 pub mod Reread
 pub mod Exact
+pub mod Level
+pub mod Halts
+pub mod Faults
+pub mod Refused

@@ -4,9 +4,10 @@ use Rattle.cbor_core.specs.declared.item.Item.{Item}
 use Rattle.cbor_core.specs.declared.item.Pair.{Pair}
 use Rattle.cbor_core.specs.Spelling.{spelling}
 use Rattle.cbor_core.specs.Place.{Place, skip}
+use Rattle.cbor_core.specs.Faulty.{last_key}
 use Rattle.diag_text.specs.declared.fault.DiagFault.{DiagFault}
 use Rattle.diag_text.specs.declared.fault.DiagFault.TheVariants as faults
-use Rattle.diag_text.specs.Reading.{Outcome, Reader, Fails, begins, pieces_at, parts_at, member_at, last_key}
+use Rattle.diag_text.specs.Reading.{Outcome, Reader, Fails, begins, pieces_at, parts_at, member_at}
 
 module _ (spell : ℕ → List ℕ) (guess : List ℕ → ℕ) (close : List ℕ) (at n k : ℕ) (found : List ℕ) (p : Place) (total : Outcome (List ℕ))
     (so_far : pieces_at spell guess close at (n - k) found p ≡ total) where

@@ -1,4 +1,4 @@
--- The text of each item is read as that item, whatever follows that is no digit and no bracket.
+-- The text of each item is read as that item, whatever follows that does not go on with it.
 use Rattle.std.proofs.Common.{◌≡◌, ◌≢◌, ℕ, zero, suc, ◌+◌, ◌-◌, ◌^◌, ◌<◌, ◌≤◌, Bool, true, false, nat_lt, List, [], ◌∷◌, ◌++◌, length, Ok, Option, Some, None, refl, sym, ap, subst, ◌∙◌, append_assoc, append-nil, arith, codes, decimal, ne_eqb, lt-ltb, length-append}
 use Rattle.std.specs.List.{flat_map, AllByRecursion}
 use Rattle.std.specs.Str.{IsUtf8}
@@ -12,13 +12,16 @@ use Rattle.cbor_core.specs.declared.item.Item.TheViews.{roll-Item, roll-out-Item
 use Rattle.cbor_core.specs.declared.item.Item.TheVariants as i
 use Rattle.cbor_core.specs.declared.item.Pair.{Pair}
 use Rattle.cbor_core.specs.Place.{Place}
+use Rattle.cbor_core.specs.Faulty.{last_key}
 use Rattle.cbor_core.specs.Spelling.{spelling, bytes_below, KeysAscend, IsBytes, IsSpellable}
 use Rattle.cbor_core.proofs.Levels.{IsWholeBy, from_spellable, has_room, IsPart}
 use Rattle.diag_text.specs.Printed.{hex_byte, escaped, listed, printed, pair_printed}
-use Rattle.diag_text.specs.Reading.{Outcome, Reader, begins, hex_guess, text_guess, inside_at, member_at, last_key, pair_at, plain_at, item_by, item_at}
+use Rattle.diag_text.specs.Reading.{Outcome, Reader, begins, hex_guess, text_guess, inside_at, member_at, pair_at, plain_at, item_by, item_at}
 use Rattle.diag_text.proofs.Texts.{printed_Unsigned, printed_Negative, printed_Bytes, printed_Text, printed_Array, printed_Map, printed_Tag, printed_Truth, printed_Null, pair_printed_out}
 use Rattle.diag_text.proofs.Loops.{member_is, last_key_more}
-use Rattle.diag_text.proofs.Again.{place, begins_front, skip_front, hex_guess_back, hex_not_close, pieces_again, Stops, number_again, digits_stop, digits_bracket, no_bracket, AgainBy, IsMark, square as square_mark, curly as curly_mark, Each, parts_again, flat_long, form_of, text_back_by, text_open_by, text_some_by}
+use Rattle.diag_text.specs.Faulty.{NoDigit, Stops, EndsBy, Ends}
+use Rattle.diag_text.proofs.Fronts.{begins_front, not_begins, stops_colon, stops_bracket, stops_ends}
+use Rattle.diag_text.proofs.Again.{place, skip_front, hex_guess_back, hex_not_close, pieces_again, number_again, digits_stop, digits_bracket, AgainBy, IsMark, square as square_mark, curly as curly_mark, Each, parts_again, flat_long, form_of, text_back_by, text_open_by, text_some_by}
 
 -- the first byte of an item's text, which closes no container
 pub record Front (text : List ℕ) : Type 0 where
@@ -57,18 +60,22 @@ front_rolled room P Item-F.Null h = literal 110 _ (codes "ull") (λ e. omega ari
 
 -- what an inner reader reads again, and how its texts start
 pub record Law (inner : Reader Item) (Q : Item → Type 0) : Type 0 where
-  pub again : (x : Item) → Q x → AgainBy inner printed x
+  pub again : (x : Item) → Q x → AgainBy inner printed (Ends x) x
   pub front : (x : Item) → Q x → Front (printed x)
 
-abbrev ReadsText : (Place → Outcome Item) → Item → List ℕ → Type 0
-ReadsText read x text = (b : ℕ) (more : List ℕ) → Stops more → read (place b (text ++ more)) ≡ Ok (x, place (b + length text) more)
+abbrev ReadsText : (Place → Outcome Item) → Item → (List ℕ → Type 0) → List ℕ → Type 0
+ReadsText read x ends text = (b : ℕ) (more : List ℕ) → ends more → read (place b (text ++ more)) ≡ Ok (x, place (b + length text) more)
 
-by_text : (read : Reader Item) (x : Item) (text : List ℕ) → printed x ≡ text → ReadsText read x text → AgainBy read printed x
-by_text read x text is law = subst (λ (t : List ℕ). ReadsText read x t) (sym is) law
+by_text : (read : Reader Item) (x : Item) (ends : List ℕ → Type 0) (text : List ℕ) → printed x ≡ text → ReadsText read x ends text → AgainBy read printed ends x
+by_text read x ends text is law = subst (λ (t : List ℕ). ReadsText read x ends t) (sym is) law
+
+-- an item whose text ends by itself
+abbrev Anything : List ℕ → Type 0
+Anything more = Unit {0}
 
 module _ (inner : Option (Reader Item)) where
-  bytes_again : (bytes : List ℕ) → AllByRecursion (λ v. v < 256) bytes → AgainBy (item_by inner) printed (i.Bytes bytes)
-  bytes_again bytes each = by_text (item_by inner) (i.Bytes bytes) _ (printed_Bytes bytes) (λ b more stop.
+  bytes_again : (bytes : List ℕ) → AllByRecursion (λ v. v < 256) bytes → AgainBy (item_by inner) printed Anything (i.Bytes bytes)
+  bytes_again bytes each = by_text (item_by inner) (i.Bytes bytes) Anything _ (printed_Bytes bytes) (λ b more stop.
       (let text : List ℕ = flat_map hex_byte bytes in
       let long = flat_long hex_byte (λ v. omega arith) bytes in
       let room : length bytes < length (text ++ (codes "'" ++ more)) = omega (arith, long, length-append text (codes "'" ++ more)) in
@@ -77,8 +84,8 @@ module _ (inner : Option (Reader Item)) where
       let step : item_by inner (place b (codes "h'" ++ (text ++ (codes "'" ++ more)))) ≡ Ok (i.Bytes bytes, place (b + 2 + length (text ++ codes "'")) more) = rw read refl in
       ap (λ (t : List ℕ). item_by inner (place b (codes "h'" ++ t))) (append_assoc text (codes "'") more) ∙ step ∙ ap (λ (k : ℕ). Ok (i.Bytes bytes, place k more)) len))
 
-  text_again : (bytes : List ℕ) → AllByRecursion (λ v. Unit {0}) bytes → IsUtf8 bytes → AgainBy (item_by inner) printed (i.Text bytes)
-  text_again bytes each utf8 = by_text (item_by inner) (i.Text bytes) _ (printed_Text bytes) (λ b more stop.
+  text_again : (bytes : List ℕ) → AllByRecursion (λ v. Unit {0}) bytes → IsUtf8 bytes → AgainBy (item_by inner) printed Anything (i.Text bytes)
+  text_again bytes each utf8 = by_text (item_by inner) (i.Text bytes) Anything _ (printed_Text bytes) (λ b more stop.
       (let text : List ℕ = flat_map escaped bytes in
       let long = flat_long escaped (λ v. text_some_by v (form_of v)) bytes in
       let room : length bytes < length (text ++ (codes "\"" ++ more)) = omega (arith, long, length-append text (codes "\"" ++ more)) in
@@ -87,8 +94,8 @@ module _ (inner : Option (Reader Item)) where
       let step : item_by inner (place b (codes "\"" ++ (text ++ (codes "\"" ++ more)))) ≡ Ok (i.Text bytes, place (b + 1 + length (text ++ codes "\"")) more) = rw (read, is_utf8-from_IsUtf8 bytes utf8) refl in
       ap (λ (t : List ℕ). item_by inner (place b (codes "\"" ++ t))) (append_assoc text (codes "\"") more) ∙ step ∙ ap (λ (k : ℕ). Ok (i.Text bytes, place k more)) len))
 
-  negative_again : (n : ℕ) → n < 2 ^ 64 → AgainBy (item_by inner) printed (i.Negative n)
-  negative_again n lt = by_text (item_by inner) (i.Negative n) _ (printed_Negative n) (λ b more stop.
+  negative_again : (n : ℕ) → n < 2 ^ 64 → AgainBy (item_by inner) printed NoDigit (i.Negative n)
+  negative_again n lt = by_text (item_by inner) (i.Negative n) NoDigit _ (printed_Negative n) (λ b more stop.
       (let read = number_again b (2 ^ 64 + 1) (n + 1) (b + 1) more (omega arith) (omega arith) (digits_stop more stop) in
       let some : nat_lt 0 (n + 1) ≡ true = lt-ltb 0 (n + 1) (omega arith) in
       let back : n + 1 - 1 ≡ n = omega arith in
@@ -96,14 +103,14 @@ module _ (inner : Option (Reader Item)) where
       let step : item_by inner (place b (codes "-" ++ (decimal (n + 1) ++ more))) ≡ Ok (i.Negative (n + 1 - 1), place (b + 1 + length (decimal (n + 1))) more) = rw (read, some) refl in
       step ∙ ap (λ (k : ℕ). Ok (i.Negative k, place (b + 1 + length (decimal (n + 1))) more)) back ∙ ap (λ (k : ℕ). Ok (i.Negative n, place k more)) len))
 
-  true_again : AgainBy (item_by inner) printed (i.Truth true)
-  true_again = by_text (item_by inner) (i.Truth true) (codes "true") (printed_Truth true) (λ b more stop. refl)
+  true_again : AgainBy (item_by inner) printed Anything (i.Truth true)
+  true_again = by_text (item_by inner) (i.Truth true) Anything (codes "true") (printed_Truth true) (λ b more stop. refl)
 
-  false_again : AgainBy (item_by inner) printed (i.Truth false)
-  false_again = by_text (item_by inner) (i.Truth false) (codes "false") (printed_Truth false) (λ b more stop. refl)
+  false_again : AgainBy (item_by inner) printed Anything (i.Truth false)
+  false_again = by_text (item_by inner) (i.Truth false) Anything (codes "false") (printed_Truth false) (λ b more stop. refl)
 
-  null_again : AgainBy (item_by inner) printed i.Null
-  null_again = by_text (item_by inner) i.Null (codes "null") printed_Null (λ b more stop. refl)
+  null_again : AgainBy (item_by inner) printed Anything i.Null
+  null_again = by_text (item_by inner) i.Null Anything (codes "null") printed_Null (λ b more stop. refl)
 
   digits_plain : (ds more : List ℕ) (b : ℕ) → 0 < length ds → AllDigits 10 ds → item_by inner (place b (ds ++ more)) ≡ plain_at inner (place b (ds ++ more))
   digits_plain [] more b some all = absurd (omega arith)
@@ -119,13 +126,13 @@ module _ (inner : Option (Reader Item)) where
       let m : 45 ≢ d = λ e. omega (arith, range.0) in
       rw (ne_eqb 116 d t, ne_eqb 102 d f, ne_eqb 110 d n, ne_eqb 104 d h, ne_eqb 34 d q, ne_eqb 91 d s, ne_eqb 123 d c, ne_eqb 45 d m) refl
 
-  plain_is : (n b : ℕ) (more : List ℕ) → n < 10 ^ 64 → item_by inner (place b (decimal n ++ more)) ≡ plain_at inner (place b (decimal n ++ more))
+  pub plain_is : (n b : ℕ) (more : List ℕ) → n < 10 ^ 64 → item_by inner (place b (decimal n ++ more)) ≡ plain_at inner (place b (decimal n ++ more))
   plain_is n b more lt = let numeral = (decimal_is_IsNumeral_wide n lt).0 in digits_plain (decimal n) more b numeral.0 numeral.1
 
-  unsigned_again : (n : ℕ) → n < 2 ^ 64 → AgainBy (item_by inner) printed (i.Unsigned n)
-  unsigned_again n lt = by_text (item_by inner) (i.Unsigned n) (decimal n) (printed_Unsigned n) (λ b more stop.
-      (let read = number_again b (2 ^ 64) n b more lt (omega arith) (digits_stop more stop) in
-      plain_is n b more (omega arith) ∙ (rw (read, no_bracket more stop) refl)))
+  unsigned_again : (n : ℕ) → n < 2 ^ 64 → AgainBy (item_by inner) printed Stops (i.Unsigned n)
+  unsigned_again n lt = by_text (item_by inner) (i.Unsigned n) Stops (decimal n) (printed_Unsigned n) (λ b more stop.
+      (let read = number_again b (2 ^ 64) n b more lt (omega arith) (digits_stop more stop.0) in
+      plain_is n b more (omega arith) ∙ (rw (read, not_begins (codes "(") more stop.1) refl)))
 
 -- ---- containers
 
@@ -140,22 +147,22 @@ inside_again part text close mark (x ∷ xs) b more each some open_still =
     rw (open_still x xs refl) (parts_again part text close mark xs x [] (length bytes) b more each room)
 
 module _ (inner : Reader Item) (Q : Item → Type 0) (law : Law inner Q) where
-  each_member : (found xs : List Item) → AllByRecursion Q xs → Each (member_at inner) printed (codes "]") square_mark found xs
+  pub each_member : (found xs : List Item) → AllByRecursion Q xs → Each (member_at inner) printed (codes "]") square_mark found xs
   each_member found [] all = tt
-  each_member found (x ∷ xs) all = ((λ b more stop. (member_is inner found (place b (printed x ++ more)) ∙ law.again x all.0 b more stop)), each_member (found ++ x ∷ []) xs all.1)
+  each_member found (x ∷ xs) all = ((λ b more stop. (member_is inner found (place b (printed x ++ more)) ∙ law.again x all.0 b more (stops_ends x more stop))), each_member (found ++ x ∷ []) xs all.1)
 
-  pair_again : (found : List Pair) (p : Pair) → Q p.key → Q p.value → bytes_below (last_key [] found) (spelling p.key) ≡ true → AgainBy (pair_at inner found) pair_printed p
+  pair_again : (found : List Pair) (p : Pair) → Q p.key → Q p.value → bytes_below (last_key [] found) (spelling p.key) ≡ true → AgainBy (pair_at inner found) pair_printed Stops p
   pair_again found p key value below b more stop =
       let k : List ℕ = printed p.key in
       let v : List ℕ = printed p.value in
       let bytes : pair_printed p ++ more ≡ k ++ (codes ": " ++ (v ++ more)) = ap (λ (t : List ℕ). t ++ more) (pair_printed_out p) ∙ append_assoc k (codes ": " ++ v) more in
-      let one = law.again p.key key b (codes ": " ++ (v ++ more)) (refl, refl) in
-      let two = law.again p.value value (b + length k + 2) more stop in
+      let one = law.again p.key key b (codes ": " ++ (v ++ more)) (stops_ends p.key _ (stops_colon (v ++ more))) in
+      let two = law.again p.value value (b + length k + 2) more (stops_ends p.value more stop) in
       let len : b + length k + 2 + length v ≡ b + length (pair_printed p) = omega (arith, ap length (pair_printed_out p), length-append k (codes ": " ++ v)) in
       let step : pair_at inner found (place b (k ++ (codes ": " ++ (v ++ more)))) ≡ Ok (p, place (b + length k + 2 + length v) more) = rw (one, below, two) refl in
       ap (λ (t : List ℕ). pair_at inner found (place b t)) bytes ∙ step ∙ ap (λ (n : ℕ). Ok (p, place n more)) len
 
-  each_pair : (found ps : List Pair) → AllByRecursion (λ p. Q p.key × Q p.value) ps → KeysAscend (last_key [] found) ps → Each (pair_at inner) pair_printed (codes "}") curly_mark found ps
+  pub each_pair : (found ps : List Pair) → AllByRecursion (λ p. Q p.key × Q p.value) ps → KeysAscend (last_key [] found) ps → Each (pair_at inner) pair_printed (codes "}") curly_mark found ps
   each_pair found [] all ascend = tt
   each_pair found (p ∷ ps) all ascend =
       (pair_again found p all.0.0 all.0.1 ascend.0, each_pair (found ++ p ∷ []) ps all.1 (subst (λ (t : List ℕ). KeysAscend t ps) (sym (last_key_more [] found p)) ascend.1))
@@ -174,31 +181,31 @@ module _ (inner : Reader Item) (Q : Item → Type 0) (law : Law inner Q) where
       let f = subst (λ (z : Pair). Front (printed z.key)) same (law.front y.key all.0.0) in
       rw (pair_printed_out p, f.is, ne_eqb 125 f.first f.curly) refl
 
-  array_again : (xs : List Item) → AllByRecursion Q xs → AgainBy (item_by (Some inner)) printed (i.Array xs)
-  array_again xs all = by_text (item_by (Some inner)) (i.Array xs) _ (printed_Array xs) (λ b more stop.
+  array_again : (xs : List Item) → AllByRecursion Q xs → AgainBy (item_by (Some inner)) printed Anything (i.Array xs)
+  array_again xs all = by_text (item_by (Some inner)) (i.Array xs) Anything _ (printed_Array xs) (λ b more stop.
       (let text : List ℕ = listed printed xs in
       let read = inside_again (member_at inner) printed (codes "]") square_mark xs (b + 1) more (each_member [] xs all) (omega arith) (members_open xs all more) in
       let len : b + 1 + length (text ++ codes "]") ≡ b + length (codes "[" ++ (text ++ codes "]")) = omega arith in
       let step : item_by (Some inner) (place b (codes "[" ++ (text ++ (codes "]" ++ more)))) ≡ Ok (i.Array xs, place (b + 1 + length (text ++ codes "]")) more) = rw read refl in
       ap (λ (t : List ℕ). item_by (Some inner) (place b (codes "[" ++ t))) (append_assoc text (codes "]") more) ∙ step ∙ ap (λ (k : ℕ). Ok (i.Array xs, place k more)) len))
 
-  map_again : (ps : List Pair) → AllByRecursion (λ p. Q p.key × Q p.value) ps → KeysAscend [] ps → AgainBy (item_by (Some inner)) printed (i.Map ps)
-  map_again ps all ascend = by_text (item_by (Some inner)) (i.Map ps) _ (printed_Map ps) (λ b more stop.
+  map_again : (ps : List Pair) → AllByRecursion (λ p. Q p.key × Q p.value) ps → KeysAscend [] ps → AgainBy (item_by (Some inner)) printed Anything (i.Map ps)
+  map_again ps all ascend = by_text (item_by (Some inner)) (i.Map ps) Anything _ (printed_Map ps) (λ b more stop.
       (let text : List ℕ = listed pair_printed ps in
       let read = inside_again (pair_at inner) pair_printed (codes "}") curly_mark ps (b + 1) more (each_pair [] ps all ascend) (omega arith) (pairs_open ps all more) in
       let len : b + 1 + length (text ++ codes "}") ≡ b + length (codes "{" ++ (text ++ codes "}")) = omega arith in
       let step : item_by (Some inner) (place b (codes "{" ++ (text ++ (codes "}" ++ more)))) ≡ Ok (i.Map ps, place (b + 1 + length (text ++ codes "}")) more) = rw read refl in
       ap (λ (t : List ℕ). item_by (Some inner) (place b (codes "{" ++ t))) (append_assoc text (codes "}") more) ∙ step ∙ ap (λ (k : ℕ). Ok (i.Map ps, place k more)) len))
 
-  tag_again : (n : ℕ) (x : Item) → n < 2 ^ 64 → Q x → AgainBy (item_by (Some inner)) printed (i.Tag n x)
-  tag_again n x lt ok = by_text (item_by (Some inner)) (i.Tag n x) _ (printed_Tag n x) (λ b more stop.
+  tag_again : (n : ℕ) (x : Item) → n < 2 ^ 64 → Q x → AgainBy (item_by (Some inner)) printed Anything (i.Tag n x)
+  tag_again n x lt ok = by_text (item_by (Some inner)) (i.Tag n x) Anything _ (printed_Tag n x) (λ b more stop.
       (let d : List ℕ = decimal n in
       let t : List ℕ = printed x in
       let bytes : (d ++ (codes "(" ++ (t ++ codes ")"))) ++ more ≡ d ++ (codes "(" ++ (t ++ (codes ")" ++ more))) =
       append_assoc d (codes "(" ++ (t ++ codes ")")) more ∙ ap (λ (s : List ℕ). d ++ (codes "(" ++ s)) (append_assoc t (codes ")") more) in
       let rest : List ℕ = codes "(" ++ (t ++ (codes ")" ++ more)) in
       let read = number_again b (2 ^ 64) n b rest lt (omega arith) (digits_bracket (t ++ (codes ")" ++ more))) in
-      let one = law.again x ok (b + length d + 1) (codes ")" ++ more) (refl, refl) in
+      let one = law.again x ok (b + length d + 1) (codes ")" ++ more) (stops_ends x _ (stops_bracket more)) in
       let len : b + length d + 1 + length t + 1 ≡ b + length (d ++ (codes "(" ++ (t ++ codes ")"))) = omega (arith, length-append d (codes "(" ++ (t ++ codes ")")), length-append t (codes ")")) in
       let step : plain_at (Some inner) (place b (d ++ rest)) ≡ Ok (i.Tag n x, place (b + length d + 1 + length t + 1) more) = rw (read, one) refl in
       ap (λ (s : List ℕ). item_by (Some inner) (place b s)) bytes ∙ plain_is (Some inner) n b rest (omega arith) ∙ step ∙ ap (λ (k : ℕ). Ok (i.Tag n x, place k more)) len))
@@ -213,35 +220,42 @@ text_each : (bytes : List ℕ) → AllByRecursion (λ v. Unit {0}) bytes
 text_each [] = tt
 text_each (v ∷ vs) = (tt, text_each vs)
 
-inside_layer : (inner : Reader Item) (Q : Item → Type 0) → Law inner Q → (l : Item-F Item Pair) → IsWholeBy true Q l → AgainBy (item_by (Some inner)) printed (roll-Item l)
-inside_layer inner Q law (Item-F.Unsigned n) h = subst (AgainBy (item_by (Some inner)) printed) (sym (i.rolls-Unsigned n)) (unsigned_again (Some inner) n h)
-inside_layer inner Q law (Item-F.Negative n) h = subst (AgainBy (item_by (Some inner)) printed) (sym (i.rolls-Negative n)) (negative_again (Some inner) n h)
-inside_layer inner Q law (Item-F.Bytes bytes) h = subst (AgainBy (item_by (Some inner)) printed) (sym (i.rolls-Bytes bytes)) (bytes_again (Some inner) bytes (bytes_each bytes h.0))
-inside_layer inner Q law (Item-F.Text text) h = subst (AgainBy (item_by (Some inner)) printed) (sym (i.rolls-Text text)) (text_again (Some inner) text (text_each text) h.0)
-inside_layer inner Q law (Item-F.Array xs) h = subst (AgainBy (item_by (Some inner)) printed) (sym (i.rolls-Array xs)) (array_again inner Q law xs h.1)
-inside_layer inner Q law (Item-F.Map ps) h = subst (AgainBy (item_by (Some inner)) printed) (sym (i.rolls-Map ps)) (map_again inner Q law ps h.1 h.3)
-inside_layer inner Q law (Item-F.Tag n x) h = subst (AgainBy (item_by (Some inner)) printed) (sym (i.rolls-Tag n x)) (tag_again inner Q law n x h.2 h.1)
-inside_layer inner Q law (Item-F.Truth true) h = subst (AgainBy (item_by (Some inner)) printed) (sym (i.rolls-Truth true)) (true_again (Some inner))
-inside_layer inner Q law (Item-F.Truth false) h = subst (AgainBy (item_by (Some inner)) printed) (sym (i.rolls-Truth false)) (false_again (Some inner))
-inside_layer inner Q law Item-F.Null h = subst (AgainBy (item_by (Some inner)) printed) (sym i.rolls-Null) (null_again (Some inner))
+inside_layer : (inner : Reader Item) (Q : Item → Type 0) → Law inner Q → (l : Item-F Item Pair) → IsWholeBy true Q l → AgainBy (item_by (Some inner)) printed (EndsBy l) (roll-Item l)
+inside_layer inner Q law (Item-F.Unsigned n) h = subst (AgainBy (item_by (Some inner)) printed Stops) (sym (i.rolls-Unsigned n)) (unsigned_again (Some inner) n h)
+inside_layer inner Q law (Item-F.Negative n) h = subst (AgainBy (item_by (Some inner)) printed NoDigit) (sym (i.rolls-Negative n)) (negative_again (Some inner) n h)
+inside_layer inner Q law (Item-F.Bytes bytes) h = subst (AgainBy (item_by (Some inner)) printed Anything) (sym (i.rolls-Bytes bytes)) (bytes_again (Some inner) bytes (bytes_each bytes h.0))
+inside_layer inner Q law (Item-F.Text text) h = subst (AgainBy (item_by (Some inner)) printed Anything) (sym (i.rolls-Text text)) (text_again (Some inner) text (text_each text) h.0)
+inside_layer inner Q law (Item-F.Array xs) h = subst (AgainBy (item_by (Some inner)) printed Anything) (sym (i.rolls-Array xs)) (array_again inner Q law xs h.1)
+inside_layer inner Q law (Item-F.Map ps) h = subst (AgainBy (item_by (Some inner)) printed Anything) (sym (i.rolls-Map ps)) (map_again inner Q law ps h.1 h.3)
+inside_layer inner Q law (Item-F.Tag n x) h = subst (AgainBy (item_by (Some inner)) printed Anything) (sym (i.rolls-Tag n x)) (tag_again inner Q law n x h.2 h.1)
+inside_layer inner Q law (Item-F.Truth true) h = subst (AgainBy (item_by (Some inner)) printed Anything) (sym (i.rolls-Truth true)) (true_again (Some inner))
+inside_layer inner Q law (Item-F.Truth false) h = subst (AgainBy (item_by (Some inner)) printed Anything) (sym (i.rolls-Truth false)) (false_again (Some inner))
+inside_layer inner Q law Item-F.Null h = subst (AgainBy (item_by (Some inner)) printed Anything) (sym i.rolls-Null) (null_again (Some inner))
 
-leaf_layer : (l : Item-F Item Pair) → IsWholeBy false (λ _. ⊥) l → AgainBy (item_by None) printed (roll-Item l)
-leaf_layer (Item-F.Unsigned n) h = subst (AgainBy (item_by None) printed) (sym (i.rolls-Unsigned n)) (unsigned_again None n h)
-leaf_layer (Item-F.Negative n) h = subst (AgainBy (item_by None) printed) (sym (i.rolls-Negative n)) (negative_again None n h)
-leaf_layer (Item-F.Bytes bytes) h = subst (AgainBy (item_by None) printed) (sym (i.rolls-Bytes bytes)) (bytes_again None bytes (bytes_each bytes h.0))
-leaf_layer (Item-F.Text text) h = subst (AgainBy (item_by None) printed) (sym (i.rolls-Text text)) (text_again None text (text_each text) h.0)
-leaf_layer (Item-F.Array xs) h = absurd (let e : false ≡ true = h.0 in cc)
-leaf_layer (Item-F.Map ps) h = absurd (let e : false ≡ true = h.0 in cc)
-leaf_layer (Item-F.Tag n x) h = absurd (let e : false ≡ true = h.0 in cc)
-leaf_layer (Item-F.Truth true) h = subst (AgainBy (item_by None) printed) (sym (i.rolls-Truth true)) (true_again None)
-leaf_layer (Item-F.Truth false) h = subst (AgainBy (item_by None) printed) (sym (i.rolls-Truth false)) (false_again None)
-leaf_layer Item-F.Null h = subst (AgainBy (item_by None) printed) (sym i.rolls-Null) (null_again None)
+leaf_layer : (inner : Option (Reader Item)) (l : Item-F Item Pair) → IsWholeBy false (λ _. ⊥) l → AgainBy (item_by inner) printed (EndsBy l) (roll-Item l)
+leaf_layer inner (Item-F.Unsigned n) h = subst (AgainBy (item_by inner) printed Stops) (sym (i.rolls-Unsigned n)) (unsigned_again inner n h)
+leaf_layer inner (Item-F.Negative n) h = subst (AgainBy (item_by inner) printed NoDigit) (sym (i.rolls-Negative n)) (negative_again inner n h)
+leaf_layer inner (Item-F.Bytes bytes) h = subst (AgainBy (item_by inner) printed Anything) (sym (i.rolls-Bytes bytes)) (bytes_again inner bytes (bytes_each bytes h.0))
+leaf_layer inner (Item-F.Text text) h = subst (AgainBy (item_by inner) printed Anything) (sym (i.rolls-Text text)) (text_again inner text (text_each text) h.0)
+leaf_layer inner (Item-F.Array xs) h = absurd (let e : false ≡ true = h.0 in cc)
+leaf_layer inner (Item-F.Map ps) h = absurd (let e : false ≡ true = h.0 in cc)
+leaf_layer inner (Item-F.Tag n x) h = absurd (let e : false ≡ true = h.0 in cc)
+leaf_layer inner (Item-F.Truth true) h = subst (AgainBy (item_by inner) printed Anything) (sym (i.rolls-Truth true)) (true_again inner)
+leaf_layer inner (Item-F.Truth false) h = subst (AgainBy (item_by inner) printed Anything) (sym (i.rolls-Truth false)) (false_again inner)
+leaf_layer inner Item-F.Null h = subst (AgainBy (item_by inner) printed Anything) (sym i.rolls-Null) (null_again inner)
 
-spellable_front : (d : ℕ) (x : Item) → IsSpellable d x → Front (printed x)
+pub spellable_front : (d : ℕ) (x : Item) → IsSpellable d x → Front (printed x)
 spellable_front d x h = subst (λ (y : Item). Front (printed y)) (roll-out-Item x) (front_rolled (has_room d) (IsPart d) (out-Item x) (from_spellable d x h))
 
+abbrev LayerAgain : Reader Item → Item-F Item Pair → Item → Type 0
+LayerAgain read l x = AgainBy read printed (EndsBy l) x
+
+-- an item that is no container is read, whatever stands inside containers
+pub scalar_again : (inner : Option (Reader Item)) (x : Item) → IsSpellable 0 x → AgainBy (item_by inner) printed (Ends x) x
+scalar_again inner x h = subst (LayerAgain (item_by inner) (out-Item x)) (roll-out-Item x) (leaf_layer inner (out-Item x) (from_spellable 0 x h))
+
 -- the text of an item is read as that item
-pub item_again : (d : ℕ) (x : Item) → IsSpellable d x → AgainBy (item_at d) printed x
+pub item_again : (d : ℕ) (x : Item) → IsSpellable d x → AgainBy (item_at d) printed (Ends x) x
 unfolding item_at
-item_again zero x h = subst (AgainBy (item_by None) printed) (roll-out-Item x) (leaf_layer (out-Item x) (from_spellable zero x h))
-item_again (suc d) x h = subst (AgainBy (item_by (Some (item_at d))) printed) (roll-out-Item x) (inside_layer (item_at d) (IsSpellable d) (record { again = item_again d; front = spellable_front d }) (out-Item x) (from_spellable (suc d) x h))
+item_again zero x h = scalar_again None x h
+item_again (suc d) x h = subst (LayerAgain (item_by (Some (item_at d))) (out-Item x)) (roll-out-Item x) (inside_layer (item_at d) (IsSpellable d) (record { again = item_again d; front = spellable_front d }) (out-Item x) (from_spellable (suc d) x h))

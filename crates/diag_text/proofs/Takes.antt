@@ -3,13 +3,13 @@ use Rattle.std.proofs.Common.{◌≡◌, ℕ, zero, suc, ◌+◌, ◌^◌, ◌<�
 use Rattle.std.specs.List.{flat_map}
 use Rattle.std.specs.Str.Parse.{digits_value}
 use Rattle.std.proofs.lemmas.Bool.{cases_Bool, and_parts, eqb-true}
-use Rattle.std.proofs.lemmas.Bool.Decides.{Decides-eqb}
-use Rattle.std.proofs.lemmas.Slice.Eq.{starts_is}
 use Rattle.cbor_core.specs.Place.{Place, skip}
 use Rattle.cbor_core.specs.Spelling.{IsBytes}
 use Rattle.diag_text.specs.Printed.{listed}
 use Rattle.diag_text.specs.Reading.{Outcome, Reader, ◌>>=◌, begins, behind, digits, same, if_decimal, number_of, number_by, number_at, pieces_at, parts_at}
-use Rattle.diag_text.proofs.Digits.{take_digits}
+use Rattle.diag_text.specs.Faulty.{NoDigit}
+use Rattle.diag_text.proofs.Fronts.{begins_is}
+use Rattle.diag_text.proofs.Digits.{take_digits, no_digit_behind}
 
 -- ---- tools
 
@@ -28,6 +28,17 @@ not_ok at x e = cc
 
 pub ok_is : {A : Type 0} (x y : A) → done x ≡ done y → x ≡ y
 ok_is x y e = cc
+
+pub err_is : {A : Type 0} (at b : ℕ) → failed {A = A} at ≡ Err b → at ≡ b
+err_is at b e = cc
+
+pub not_err : {A : Type 0} (x : A) (at : ℕ) → done x ≡ Err at → ⊥
+not_err x at e = cc
+
+-- which step failed
+pub bind_err : {A B : Type 0} (r : Outcome A) (f : A × Place → Outcome B) (at : ℕ) → (r >>= f) ≡ Err at → (r ≡ Err at) ⊎ ((x : A × Place) × (r ≡ Ok x) × (f x ≡ Err at))
+bind_err (Ok x) f at e = inr (x, refl, e)
+bind_err (Err d) f at e = inl (let h : failed d ≡ Err at = e in ap (λ (y : ℕ). Err y) (err_is d at h))
 
 -- which way a test went
 pub chosen : {A : Type 0} (b : Bool) (x y z : A) → cond b x y ≡ z → ((b ≡ true) × (x ≡ z)) ⊎ ((b ≡ false) × (y ≡ z))
@@ -55,9 +66,6 @@ took_then p x q y r a b = record {
 
 pub took_fits : (p : Place) (text : List ℕ) (q : Place) → Took p text q → length p.rest < 2 ^ 64 → length q.rest < 2 ^ 64
 took_fits p text q t fits = omega (arith, ap length t.rest, length-append text q.rest)
-
-pub begins_is : (token bytes : List ℕ) → begins token bytes ≡ true → bytes ≡ token ++ drop (length token) bytes
-begins_is token bytes e = (starts_is Decides-eqb bytes token (begins token bytes) refl).0 e
 
 pub token_took : (token : List ℕ) (p : Place) → begins token p.rest ≡ true → Took p token (skip (length token) p)
 token_took token p e = record { rest = begins_is token p.rest e; at = refl }
@@ -189,13 +197,23 @@ number_is limit ds n e = elim (cases_Bool (nat_lt (digits_value 10 ds) limit)) [
   | inr large ↦ absurd (let f : None ≡ Some n = rw large at e in cc)
 ]
 
-number_by_takes : (at limit : ℕ) (p : Place) (o : Option ℕ) (x : ℕ × Place) → number_of limit (digits p.rest) ≡ o → number_by at (digits p.rest) p o ≡ Ok x → Took p (decimal x.0) x.1 × (x.0 < limit)
+-- a number that stood between two places, with all its digits
+pub record NumberTook (limit : ℕ) (p : Place) (x : ℕ × Place) : Type 0 where
+  pub took : Took p (decimal x.0) x.1
+  pub below : x.0 < limit
+  pub ends : NoDigit x.1.rest
+
+number_by_takes : (at limit : ℕ) (p : Place) (o : Option ℕ) (x : ℕ × Place) → number_of limit (digits p.rest) ≡ o → number_by at (digits p.rest) p o ≡ Ok x → NumberTook limit p x
 number_by_takes at limit p None x is e = absurd (not_ok at x e)
 number_by_takes at limit p (Some n) x is e =
     let number = number_is limit (digits p.rest) n is in
     let front : p.rest ≡ digits p.rest ++ drop (length (digits p.rest)) p.rest = sym (take-append-drop (length (digits p.rest)) p.rest) ∙ ap (λ (t : List ℕ). t ++ drop (length (digits p.rest)) p.rest) (take_digits p.rest) in
     let took : Took p (digits p.rest) (skip (length (digits p.rest)) p) = record { rest = front; at = refl } in
-    subst (λ (y : ℕ × Place). Took p (decimal y.0) y.1 × (y.0 < limit)) (ok_is (n, skip (length (digits p.rest)) p) x e) (subst (λ (t : List ℕ). Took p t (skip (length (digits p.rest)) p)) (sym number.text) took, number.below)
+    subst (λ (y : ℕ × Place). NumberTook limit p y) (ok_is (n, skip (length (digits p.rest)) p) x e) (record {
+      took = subst (λ (t : List ℕ). Took p t (skip (length (digits p.rest)) p)) (sym number.text) took;
+      below = number.below;
+      ends = no_digit_behind p.rest;
+    })
 
-pub number_takes : (at limit : ℕ) (p : Place) (x : ℕ × Place) → number_at at limit p ≡ Ok x → Took p (decimal x.0) x.1 × (x.0 < limit)
+pub number_takes : (at limit : ℕ) (p : Place) (x : ℕ × Place) → number_at at limit p ≡ Ok x → NumberTook limit p x
 number_takes at limit p x e = number_by_takes at limit p (number_of limit (digits p.rest)) x refl e

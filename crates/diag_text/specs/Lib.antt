@@ -1,3 +1,5 @@
 pub mod Printed
 pub mod Printing
 pub mod Reading
+pub mod Faulty
+pub mod Law

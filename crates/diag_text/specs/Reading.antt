@@ -10,6 +10,7 @@ use Rattle.cbor_core.specs.declared.item.Item.TheVariants as i
 use Rattle.cbor_core.specs.declared.item.Pair.{Pair}
 use Rattle.cbor_core.specs.Place.{Place, start, skip}
 use Rattle.cbor_core.specs.Spelling.{spelling, bytes_below}
+use Rattle.cbor_core.specs.Faulty.{last_key}
 use Rattle.diag_text.specs.declared.fault.DiagFault.{DiagFault}
 use Rattle.diag_text.specs.declared.fault.DiagFault.TheVariants as faults
 use Rattle.diag_text.specs.Printed.{hex_byte, escaped}
@@ -124,11 +125,6 @@ inside_at part close p = if begins close p.rest then Ok ([], skip (length close)
 unfoldable pub member_at : Reader Item → List Item → Reader Item
 member_at inner found p = inner p
 
--- the spelling of the last key
-abbrev pub last_key : List ℕ → List Pair → List ℕ
-last_key last [] = last
-last_key last (p ∷ ps) = last_key (spelling p.key) ps
-
 -- a key whose encoding is above the last one
 abbrev pub key_at : Reader Item → List ℕ → Reader Item
 key_at inner last p = inner p >>= λ key. if bytes_below last (spelling key.0) then Ok key else Err p.at
@@ -214,3 +210,9 @@ abbrev pub IsFound : Result Item DiagFault → Item → Type 0
 IsFound (Ok y) x = y ≡ x
 IsFound (Err (faults.Bad f)) x = ⊥
 IsFound (Err faults.NoMemory) x = Unit {0}
+
+-- The answer names this place, unless memory ran out.
+abbrev pub IsRefused : Result Item DiagFault → ℕ → Type 0
+IsRefused (Ok y) at = ⊥
+IsRefused (Err (faults.Bad f)) at = f.at ≡ at
+IsRefused (Err faults.NoMemory) at = Unit {0}

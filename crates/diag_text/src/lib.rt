@@ -5,6 +5,7 @@
 
 mod cursor;
 mod fault;
+mod laws;
 mod printer;
 mod reader;
 mod scan;
@@ -13,5 +14,6 @@ mod tests;
 
 pub use cbor_core::{Boxed, Item, List, NoMemory, Octets, OrMemory, Pair, Utf8};
 pub use fault::{DiagFault, TextFault};
+pub use laws::exactly_one;
 pub use printer::print;
 pub use reader::read;

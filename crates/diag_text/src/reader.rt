@@ -2,9 +2,12 @@ ghost use Rattle.std.specs.Prelude.{◌≡◌, ◌≤◌, ◌<◌, ◌^◌, ℕ,
 ghost use Rattle.cbor_core.specs.Place.{start};
 ghost use Rattle.cbor_core.specs.declared.item.Item.{Item};
 ghost use Rattle.cbor_core.specs.declared.item.Pair.{Pair};
+ghost use Rattle.cbor_core.specs.Faulty.{last_key};
 ghost use Rattle.cbor_core.specs.Spelling.{spelling, bytes_below};
+ghost use Rattle.diag_text.specs.declared.fault.TextFault.{TextFault};
 ghost use Rattle.diag_text.specs.Printed.{Prints};
-ghost use Rattle.diag_text.specs.Reading.{Gives, Decides, whole_at, string_at, inside_at, parts_at, member_at, key_at, pair_at, last_key, array_at, map_at, tag_at, number_or_tag, negative_at, plain_at, item_at, inside, alone, IsFound};
+ghost use Rattle.diag_text.specs.Reading.{Gives, Decides, whole_at, string_at, inside_at, parts_at, member_at, key_at, pair_at, array_at, map_at, tag_at, number_or_tag, negative_at, plain_at, item_at, inside, alone, IsFound, IsRefused};
+ghost use Rattle.diag_text.specs.Faulty.{TextFaulty};
 
 use crate::cursor::Cursor;
 use crate::fault::DiagFault;
@@ -252,14 +255,21 @@ fn read_alone(alloc: Global, text: &[u8]) -> Result<Item, DiagFault>
 
 /// Reads the proper item whose one diagnostic text this is, as `print` writes it.
 ///
-/// `Bad` comes exactly where no proper item has this text, unless `NoMemory` comes, as it may for any
-/// text. It names the offset, in bytes, at which the text was given up. The work is linear in the text,
-/// and nothing recurses deeper than 16 containers.
+/// `Bad` comes exactly where the text has a fault, which is where no proper item has this text; it names
+/// the place of the first one, in bytes from the start: that of a number, string or word that is not in
+/// the written form or out of range, of a mark that is missing, cut short or out of place, of a
+/// container inside sixteen others, or of a key that is not above the one before it. Where nothing is
+/// left and more is needed it is the length of the text. `NoMemory` may come for any text. The work is
+/// linear in the text, and nothing recurses deeper than 16 containers.
 pub fn read(alloc: Global, text: &str) -> Result<Item, DiagFault>
     // What is found has this text.
     ensures found { IfOk result (λ x. Prints x text.now) }
     // The proper item that has this text is found, unless memory runs out.
     ensures only { (x : Item) → Prints x text.now → IsFound result x }
+    // The answer Bad names the place of a fault of the text.
+    ensures bad { (f : TextFault) → result ≡ Err (DiagFault.Bad f) → TextFaulty text.now f.at }
+    // A fault of the text is the answer, unless memory runs out.
+    ensures refused { (at : ℕ) → TextFaulty text.now at → IsRefused result at }
 {
     read_alone(alloc, text.as_bytes())
 }

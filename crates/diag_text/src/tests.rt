@@ -1,4 +1,4 @@
-use crate::{DiagFault, TextFault, print, read};
+use crate::{DiagFault, TextFault, exactly_one, print, read};
 use cbor_core::decode_whole;
 use std::test::Fail;
 
@@ -88,6 +88,7 @@ const REFUSED: [Refused; 30] = [
 
 #[test]
 fn faults_have_their_places(rt: HostRuntime) -> Result<(), Fail> {
+    exactly_one();
     let alloc = rt.alloc();
     for Refused(text, at) in REFUSED.iter() {
         assert!(rt; read(alloc, *text) == Err(DiagFault::Bad(TextFault { at: *at })));

@@ -1,7 +1,8 @@
 use Rattle.std.proofs.Common.{◌<◌, List, [], length, sym, ap, ◌∙◌, arith, codes}
 use Rattle.std.proofs.lemmas.Result.{err_from_is_err_and}
 use Rattle.cbor_core.specs.declared.item.Pair.{Pair}
-use Rattle.diag_text.specs.Reading.{member_at, pair_at, item_at, last_key}
+use Rattle.diag_text.specs.Reading.{member_at, pair_at, item_at}
+use Rattle.cbor_core.specs.Faulty.{last_key}
 use Rattle.diag_text.proofs.Loops.{part_fails, met_closes, met_wrong, met_next, parts_end, member_is, last_key_more}
 use Rattle.diag_text.proofs.Found.{item_proper}
 use Rattle.diag_text.proofs.reader.+reader.Goals as goal

@@ -1,5 +1,6 @@
 use Rattle.std.proofs.Common.{◌≡◌, ◌+◌, ◌*◌, ◌-◌, [], length, codes}
-use Rattle.diag_text.specs.Reading.{parts_at, member_at, pair_at, item_at, last_key}
+use Rattle.diag_text.specs.Reading.{parts_at, member_at, pair_at, item_at}
+use Rattle.cbor_core.specs.Faulty.{last_key}
 use Rattle.diag_text.proofs.reader.+reader.Given as goal
 
 abbrev pub decreases-read_item : goal.decreases-read_item

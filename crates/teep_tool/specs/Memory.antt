@@ -1,0 +1,52 @@
+-- What a host in memory holds and keeps.
+use Rattle.std.specs.Prelude.{◌≡◌, ◌+◌, ◌-◌, ◌^◌, ◌++◌, ℕ, min, List, [], Bool, true, false, not, Option, None, Some, IsSome, option_map, Result, Ok, Err, is_ok, ◌==◌, IsTrue, nat_eq, string_bytes}
+use Rattle.std.specs.List.{list_any, find}
+use Rattle.std.specs.Cmp.Lexicographic.{pointwise}
+use Rattle.teep_tool.specs.Contents.{Contents}
+use Rattle.teep_tool.specs.declared.host.HostFault.{HostFault}
+use Rattle.teep_tool.specs.declared.host.HostFault.TheVariants.{Failed, Long, NoMemory}
+use Rattle.teep_tool.specs.declared.memory_host.Named.{Named}
+use Rattle.teep_tool.specs.declared.memory_host.MemoryHost.{MemoryHost}
+
+-- the bytes of the first file that has the name
+abbrev pub file_in : List Named → List ℕ → Option (List ℕ)
+file_in files name = option_map (λ file. file.bytes) (find (λ file. pointwise nat_eq file.name name) files)
+
+abbrev pub contents : MemoryHost → Contents
+contents m = record { files = file_in m.files; printed = string_bytes m.printed }
+
+abbrev pub faults_of : MemoryHost → ℕ
+faults_of m = m.faults
+
+-- the number of the next call
+abbrev pub next_of : MemoryHost → ℕ
+next_of m = m.calls
+
+-- the numbers of the calls that are to fail
+abbrev pub failing_of : MemoryHost → List ℕ
+failing_of m = m.failing
+
+-- the next call works
+abbrev pub works : MemoryHost → Bool
+works m = not (list_any (λ n. n == next_of m) (failing_of m))
+
+-- a call takes the next number, as long as there is one, and its number alone says whether it works
+pub record TakesNumber (old new : MemoryHost) : Type 0 where
+  pub next : next_of new ≡ min (next_of old + 1) (2 ^ 64 - 1)
+  pub failing : failing_of new ≡ failing_of old
+
+-- a read whose number works fails only where no file has the name
+abbrev pub ReadAnswers : Bool → Option (List ℕ) → Result (List ℕ) HostFault → Type 0
+ReadAnswers true None result = result ≡ Err Failed
+ReadAnswers true (Some bytes) (Ok got) = Unit {0}
+ReadAnswers true (Some bytes) (Err Long) = Unit {0}
+ReadAnswers true (Some bytes) (Err NoMemory) = Unit {0}
+ReadAnswers true (Some bytes) (Err Failed) = ⊥
+ReadAnswers false file result = result ≡ Err Failed
+
+-- a host of which no call was made
+pub record IsNew (files : List Named) (failing : List ℕ) (m : MemoryHost) : Type 0 where
+  pub contents_is : contents m ≡ record { files = file_in files; printed = [] }
+  pub faults : faults_of m ≡ 0
+  pub next : next_of m ≡ 0
+  pub failing_is : failing_of m ≡ failing
