@@ -1,10 +1,10 @@
 -- Fields of a map that bytes spell, put back by their values.
-use Rattle.std.proofs.Common.{◌≡◌, ℕ, ◌<◌, Bool, true, false, List, [], ◌∷◌, Option, Some, None, refl, sym, ap, subst, ◌∙◌}
+use Rattle.std.proofs.Common.{◌≡◌, ℕ, ◌<◌, Bool, true, false, List, [], ◌∷◌, Option, Some, None, refl, sym, ap, ◌∙◌}
 use Rattle.std.specs.Prelude.{option_map, option_and_then}
 use Rattle.cbor_core.specs.declared.item.Item.{Item, out-Item}
 use Rattle.cbor_core.specs.declared.item.Pair.{Pair}
 use Rattle.cbor_core.specs.Views.{field, labelled_by}
-use Rattle.cbor_fields.specs.Views.{optional, field_of, needed_of, behind_key, keys_among, is_among, others}
+use Rattle.cbor_fields.specs.Views.{optional, field_of, needed_of, keys_among, is_among, others}
 use Rattle.cbor_fields.specs.Written.{Determines, put, put_if}
 use Rattle.cbor_fields.specs.Law.{FieldsPutBack}
 use Rattle.cbor_fields.proofs.Spelled.{ArePairs, value_spelled}

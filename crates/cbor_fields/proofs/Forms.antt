@@ -1,15 +1,14 @@
 -- Of the items that bytes spell, one at most has a value in a form.
-use Rattle.std.proofs.Common.{◌≡◌, ℕ, ◌<◌, ◌+◌, ◌⊎◌, Bool, true, false, List, [], ◌∷◌, ◌++◌, length, drop, get_or, Option, Some, None, Result, Ok, Err, map, refl, sym, ap, subst, ◌∙◌, inl, inr, arith, cond}
+use Rattle.std.proofs.Common.{◌≡◌, ℕ, ◌<◌, Bool, true, false, List, [], ◌∷◌, length, drop, Option, Some, None, map, refl, sym, ap, subst, ◌∙◌, inl, inr, arith, cond}
 use Rattle.std.specs.Prelude.{option_map, option_and_then}
 use Rattle.std.specs.List.{AllByRecursion}
 use Rattle.std.proofs.lemmas.List.{drop_all, drop_more, append-nil}
-use Rattle.cbor_core.specs.declared.item.Item.{Item, out-Item}
+use Rattle.cbor_core.specs.declared.item.Item.{Item}
 use Rattle.cbor_core.specs.declared.item.Item.TheVariants as i
 use Rattle.cbor_core.specs.declared.fault.Fault.{Fault}
-use Rattle.cbor_core.specs.Place.{Place, start}
+use Rattle.cbor_core.specs.Place.{start}
 use Rattle.cbor_core.specs.Spelling.{spelling, Spells}
-use Rattle.cbor_core.specs.Law.{SpellsFront, IsFaulty, IsFaultyWhole, HasExtra}
-use Rattle.cbor_core.specs.Reading.{Outcome, item_at}
+use Rattle.cbor_core.specs.Law.{SpellsFront, IsFaultyWhole}
 use Rattle.cbor_core.specs.Views.{unsigned_of, bytes_of, text_of, truth_of, array_of}
 use Rattle.cbor_core.proofs.Inputs.{reads, spelled_in_front}
 use Rattle.cbor_core.proofs.Refused.{item_refuses}

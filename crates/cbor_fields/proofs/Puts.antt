@@ -1,6 +1,5 @@
 -- The pairs of an ascending map are those that are no field, with each field put back.
-use Rattle.std.proofs.Common.{◌≡◌, ℕ, suc, ◌+◌, ◌<◌, Bool, true, false, cond, List, [], ◌∷◌, Option, Some, None, refl, sym, ap, subst, ◌∙◌, arith}
-use Rattle.std.specs.Prelude.{nat_lt, ◌==◌, not}
+use Rattle.std.proofs.Common.{◌≡◌, ℕ, suc, ◌+◌, ◌<◌, Bool, true, false, List, [], ◌∷◌, Option, Some, None, refl, sym, ap, ◌∙◌, arith}
 use Rattle.std.specs.List.{AllByRecursion, prefix_len}
 use Rattle.std.proofs.lemmas.Bool.{le-ltb, eqb-true}
 use Rattle.cbor_core.specs.declared.item.Item.{Item, out-Item}
@@ -10,7 +9,7 @@ use Rattle.cbor_core.specs.declared.item.Item.TheViews.{roll-Item, roll-out-Item
 use Rattle.cbor_core.specs.declared.item.Item.TheVariants as i
 use Rattle.cbor_core.specs.Spelling.{spelling, KeysAscend}
 use Rattle.cbor_core.specs.Views.{field, labelled_by}
-use Rattle.cbor_fields.specs.Views.{is_among, is_other, others}
+use Rattle.cbor_fields.specs.Views.{is_among, others}
 use Rattle.cbor_fields.specs.Written.{labelled, is_below_by, is_below, put}
 use Rattle.cbor_fields.proofs.Order.{IsPast, all_past}
 
