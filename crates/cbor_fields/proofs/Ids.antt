@@ -1,11 +1,11 @@
 -- An identifier is proper.
-use Rattle.std.proofs.Common.{◌≡◌, ℕ, zero, suc, Bool, true, false, List, [], ◌∷◌, refl, sym, ◌∙◌, subst, ap, cond}
-use Rattle.std.specs.Prelude.{Option, Some, None}
+use Rattle.std.proofs.Common.{◌≡◌, ℕ, suc, Bool, true, false, List, [], ◌∷◌, refl, sym, ap, cond}
+use Rattle.std.specs.Prelude.{Some, None}
 use Rattle.std.specs.List.{AllByRecursion}
 use Rattle.cbor_core.specs.declared.item.Item.{Item, out-Item}
 use Rattle.cbor_core.specs.declared.item.Item.TheOpen.{Item-F}
 use Rattle.cbor_core.specs.declared.item.Pair.{Pair}
-use Rattle.cbor_core.specs.Spelling.{spelling, IsProper, IsProperBy, IsProperWithin, Spells}
+use Rattle.cbor_core.specs.Spelling.{IsProper, IsProperBy, IsProperWithin, Spells}
 use Rattle.cbor_fields.specs.Views.{is_bytes_by, all_bytes, is_id, is_id_by, id_of}
 
 leaf : (P : Item → Type 0) (l : Item-F Item Pair) → is_bytes_by l ≡ true → IsProperBy true P l

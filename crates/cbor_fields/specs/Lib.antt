@@ -1,3 +1,5 @@
 pub mod Reads
 pub mod Views
 pub mod Walks
+pub mod Written
+pub mod Law

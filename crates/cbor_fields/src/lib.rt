@@ -8,14 +8,20 @@ mod fault;
 mod field;
 mod form;
 mod id;
+mod laws;
 mod list;
+mod parts;
+mod put;
 mod simple;
 #[cfg(test)]
 mod tests;
 
 pub use fault::FormFault;
-pub use field::{has_keys_among, other_pairs, read_field, read_needed};
+pub use field::{has_keys_among, negative_field, other_pairs, read_field, read_needed};
 pub use form::Form;
 pub use id::Id;
+pub use laws::{fields_put_back, forms_determine, lists_determine};
 pub use list::ListOf;
+pub use parts::{into_bytes, into_map};
+pub use put::{put_field, put_needed};
 pub use simple::{Anything, ByteString, TextString, Truth, Unsigned};

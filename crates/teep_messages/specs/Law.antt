@@ -21,3 +21,7 @@ pub record OneRefusal (bytes : List ℕ) : Type 0 where
 
 abbrev pub ExactlyOne : Type 0
 ExactlyOne = (bytes : List ℕ) → IsBytes bytes → OneMessage bytes ⊎ OneRefusal bytes
+
+-- a message is one list of bytes at most
+abbrev pub OneSpelling : Type 0
+OneSpelling = (message : Message) (a b : List ℕ) → MessageIs message a → MessageIs message b → a ≡ b

@@ -1,5 +1,6 @@
 pub mod Rows
 pub mod Options
 pub mod Messages
+pub mod Written
 pub mod Reading
 pub mod Law

@@ -1,4 +1,15 @@
-//! The labels of options, and the numbers by which the other parts of a message are named.
+//! The numbers of the kinds, the labels of options, and the numbers by which the other parts of a
+//! message are named.
+
+pub const QUERY_REQUEST: u64 = 1;
+
+pub const QUERY_RESPONSE: u64 = 2;
+
+pub const UPDATE: u64 = 3;
+
+pub const SUCCESS: u64 = 5;
+
+pub const ERROR: u64 = 6;
 
 pub const CHALLENGE: u64 = 2;
 

@@ -18,9 +18,12 @@ mod reported;
 mod requested;
 #[cfg(test)]
 mod tests;
+mod write;
+mod write_options;
+mod write_parts;
 
 pub use fault::MessageFault;
-pub use laws::exactly_one;
+pub use laws::{exactly_one, one_spelling};
 pub use message::Message;
 pub use operation::{Operation, Profile, Suite};
 pub use options::Options;

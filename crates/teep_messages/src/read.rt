@@ -6,7 +6,9 @@ ghost use Rattle.teep_messages.specs.Reading.{Judges, IsFound, IsRefused};
 
 use crate::fault::MessageFault;
 use crate::forms::{OperationPair, ProfileArray};
-use crate::labels::{CODE, ITEMS, MESSAGE, PROFILES, SUITES};
+use crate::labels::{
+    CODE, ERROR, ITEMS, MESSAGE, PROFILES, QUERY_REQUEST, QUERY_RESPONSE, SUCCESS, SUITES, UPDATE,
+};
 use crate::message::Message;
 use crate::options::Options;
 use crate::read_options::{read_options, read_part};
@@ -56,17 +58,17 @@ fn read_parts(alloc: Global, kind: u64, parts: &[Item]) -> Result<Message, Messa
     ensures { Judges (wrong_parts kind parts.now) (λ message. (number_of message ≡ kind) × PartsAre parts.now message) result }
 {
     match kind {
-        1 => read_question(alloc, parts),
-        2 => Ok(Message::QueryResponse {
+        QUERY_REQUEST => read_question(alloc, parts),
+        QUERY_RESPONSE => Ok(Message::QueryResponse {
             options: read_plain(alloc, parts)?,
         }),
-        3 => Ok(Message::Update {
+        UPDATE => Ok(Message::Update {
             options: read_plain(alloc, parts)?,
         }),
-        5 => Ok(Message::Success {
+        SUCCESS => Ok(Message::Success {
             options: read_plain(alloc, parts)?,
         }),
-        6 => read_error(alloc, parts),
+        ERROR => read_error(alloc, parts),
         _ => Err(MessageFault::Kind(kind)),
     }
 }

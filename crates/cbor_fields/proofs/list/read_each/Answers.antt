@@ -2,7 +2,7 @@ use Rattle.std.proofs.lemmas.Result.{err_from_is_err_and}
 use Rattle.cbor_fields.specs.Reads.{Reads}
 use Rattle.cbor_fields.specs.declared.fault.FormFault.{FormFault}
 use Rattle.cbor_fields.specs.declared.fault.FormFault.TheVariants.{Shape, NoMemory}
-use Rattle.std.specs.Prelude.{◌≡◌, Option, None, Result, Ok, Err}
+use Rattle.std.specs.Prelude.{◌≡◌, Option, None, Err}
 use Rattle.cbor_fields.proofs.Each.{all_read, one_unread}
 use Rattle.cbor_fields.proofs.list.read_each.Goals as goal
 

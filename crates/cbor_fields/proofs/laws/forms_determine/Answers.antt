@@ -1,0 +1,5 @@
+use Rattle.cbor_fields.proofs.Forms.{forms_determine}
+use Rattle.cbor_fields.proofs.laws.forms_determine.Goals as goal
+
+pub returns : goal.returns
+returns c = forms_determine

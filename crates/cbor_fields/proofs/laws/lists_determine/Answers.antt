@@ -1,0 +1,5 @@
+use Rattle.cbor_fields.proofs.Forms.{list_determines}
+use Rattle.cbor_fields.proofs.laws.lists_determine.Goals as goal
+
+pub returns : goal.returns
+returns g c = list_determines g.F.Form.view g.F.Form.written c.requires
