@@ -1,5 +1,5 @@
 -- What an item stands for in a typed form: a value, or none where it has another shape.
-use Rattle.std.specs.Prelude.{ℕ, Bool, true, false, ◌&&◌, List, [], ◌∷◌, ◌++◌, Option, Some, None, option_map, option_and_then, if◌then◌else◌, not}
+use Rattle.std.specs.Prelude.{◌==◌, ℕ, Bool, true, false, ◌&&◌, List, [], ◌∷◌, ◌++◌, Option, Some, None, option_map, option_and_then, if◌then◌else◌, not}
 use Rattle.std.specs.List.{filter}
 use Rattle.cbor_core.specs.declared.item.Item.{Item, out-Item}
 use Rattle.cbor_core.specs.declared.item.Item.TheOpen.{Item-F}
@@ -54,6 +54,15 @@ field_of view label pairs = optional view (field label pairs)
 -- the field under a label, which must be there
 abbrev pub needed_of : {B : Type 0} → (Item → Option B) → ℕ → List Pair → Option B
 needed_of view label pairs = option_and_then view (field label pairs)
+
+abbrev pub negative_labelled_by : ℕ → Item-F Item Pair → Bool
+negative_labelled_by label (Item-F.Negative n) = n == label
+negative_labelled_by label _ = false
+
+-- the value of the first pair whose key is the number -1-n
+abbrev pub negative_field : ℕ → List Pair → Option Item
+negative_field label [] = None
+negative_field label (p ∷ ps) = if negative_labelled_by label (out-Item p.key) then Some p.value else negative_field label ps
 
 -- the pairs behind the first, where its key is the label
 abbrev pub behind_key : ℕ → List Pair → List Pair

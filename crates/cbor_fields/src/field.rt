@@ -1,7 +1,8 @@
 ghost use Rattle.std.specs.Prelude.{◌≡◌, IfOk};
+ghost use Rattle.std.specs.Option.{option_copied};
 ghost use Rattle.cbor_core.specs.declared.item.Item.{out-Item};
 ghost use Rattle.cbor_fields.specs.Reads.{Reads};
-ghost use Rattle.cbor_fields.specs.Views.{field_of, needed_of, keys_among, is_among, others};
+ghost use Rattle.cbor_fields.specs.Views.{field_of, needed_of, keys_among, is_among, others, negative_labelled_by};
 ghost use Rattle.cbor_fields.specs.Views as Views;
 
 use crate::fault::FormFault;
@@ -38,6 +39,29 @@ pub fn read_needed<V: Drop, F: Form<V>>(
         Some(item) => F::read(alloc, item),
         None => Err(FormFault::Shape),
     }
+}
+
+/// Whether a key is the number -1-n with this n.
+fn is_negative_label(key: &Item, label: u64) -> bool
+    ensures { result ≡ negative_labelled_by label (out-Item key.now) }
+{
+    match key {
+        Item::Negative(n) => *n == label,
+        _ => false,
+    }
+}
+
+/// The value of the first pair whose key is the negative number -1-`label`. None exactly where no key
+/// is.
+pub fn negative_field(pairs: &[Pair], label: u64) -> Option<&Item>
+    ensures { option_copied result ≡ Views.negative_field label pairs.now }
+{
+    for pair in pairs {
+        if is_negative_label(&pair.key, label) {
+            return Some(&pair.value);
+        }
+    }
+    None
 }
 
 /// Whether a key is one of the labels.

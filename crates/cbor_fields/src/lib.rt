@@ -9,13 +9,15 @@ mod field;
 mod form;
 mod id;
 mod list;
+mod parts;
 mod simple;
 #[cfg(test)]
 mod tests;
 
 pub use fault::FormFault;
-pub use field::{has_keys_among, other_pairs, read_field, read_needed};
+pub use field::{has_keys_among, negative_field, other_pairs, read_field, read_needed};
 pub use form::Form;
 pub use id::Id;
 pub use list::ListOf;
+pub use parts::{into_bytes, into_map};
 pub use simple::{Anything, ByteString, TextString, Truth, Unsigned};
