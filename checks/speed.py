@@ -87,8 +87,14 @@ def frames():
     print(f"teep_agent run over 1 MiB of questions: {seconds([AGENT, 'run'], given):.3f} s")
 
 
+def appends():
+    for bodies in (2500, 5000, 10000):
+        print(f"{bodies} bodies of 100 bytes appended: {seconds([hss.PROGRAM, 'append', str(bodies)], b''):.3f} s")
+
+
 if __name__ == "__main__":
     if not os.path.exists(hss.PROGRAM):
         sys.exit("rt ci has left no crates/benchmarks/out/benchmarks")
     rates()
     frames()
+    appends()

@@ -7,11 +7,13 @@
 //! | `verify` | an HSS public key, a length as four bytes, a message of it, a signature | it is verified |
 //! | `hash` | bytes | their SHA-256 digest |
 //! | `chain` | none | the 255 steps of one hash chain of LM-OTS at width 8 |
+//! | `append` | none | a body of 100 bytes is put at the end of a journal over a board in memory |
 //!
 //! It prints in how many rounds the work was done with a good answer. Other words print nothing and end
 //! with status 2.
 #![tactic(auto)]
 
+mod append;
 mod work;
 
 use std::env;

@@ -1,5 +1,6 @@
 ghost use Rattle.cbor_core.specs.Spelling.{IsProper};
 
+use crate::append::appends;
 use cbor_core::{Item, decode_whole, encode, is_proper};
 use hss_verify::{HssPublic, hss_verify};
 use lms_core::chain;
@@ -14,6 +15,7 @@ pub enum Work {
     Verify,
     Hash,
     Chain,
+    Append,
 }
 
 impl Work {
@@ -25,6 +27,7 @@ impl Work {
             "verify" => Some(Work::Verify),
             "hash" => Some(Work::Hash),
             "chain" => Some(Work::Chain),
+            "append" => Some(Work::Append),
             _ => None,
         }
     }
@@ -37,6 +40,7 @@ impl Work {
             Work::Verify => verifies(bytes, rounds),
             Work::Hash => hashes(bytes, rounds),
             Work::Chain => chains(rounds),
+            Work::Append => appends(alloc, rounds),
         }
     }
 }

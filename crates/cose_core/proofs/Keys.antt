@@ -14,7 +14,8 @@ use Rattle.cose_core.specs.declared.key.CoseKey.{CoseKey}
 use Rattle.cose_core.specs.declared.fault.KeyFault.{KeyFault}
 use Rattle.cose_core.specs.declared.fault.KeyFault.TheVariants as faults
 use Rattle.cose_core.specs.declared.labels.TheConstants.{ALG_HSS_LMS, KEY_KTY, KEY_KID, KEY_ALG, KEY_PUB, KTY_HSS_LMS}
-use Rattle.cose_core.specs.Headers.{negative_field, bytes_if}
+use Rattle.cbor_fields.specs.Views.{negative_field}
+use Rattle.cose_core.specs.Headers.{bytes_if}
 use Rattle.cose_core.specs.Key.{IsKey, IsKeyItem, KeyIs, KeyRefusedAs, IsKeyFound, IsKeyRefused, kid_if, KeyReadAs, kid_pairs, written_key}
 use Rattle.cose_core.proofs.Views.{bytes_is, bytes_back, same_bytes, same_map}
 

@@ -13,7 +13,7 @@ use Rattle.cose_core.specs.declared.fault.CoseFault.TheVariants as faults
 use Rattle.cose_core.specs.declared.labels.TheConstants.{SIGN1_TAG}
 use Rattle.cose_core.specs.Headers.{Wraps, IsHssLms, IsUncritical}
 use Rattle.cose_core.specs.Sign1.{untagged, tagged, HasForm, Sign1Is, RefusedAs, IsFound, IsRefused, HasGoodHeaders, IsTaggedForm}
-use Rattle.cose_core.specs.Reading.{form_of, CheckedAs, ReadAs}
+use Rattle.cose_core.specs.Reading.{form_of, IsGood, CheckedAs, ReadAs}
 use Rattle.cose_core.proofs.Forms.{wraps_one, form_at, has_form}
 
 -- a fault of the protected bytes is one of the item
@@ -23,6 +23,14 @@ not_checked x v faults.Shape is h = λ w here headers wrapped. (let same : v ≡
 not_checked x v faults.WrongAlg is h = (v, is, h)
 not_checked x v faults.Critical is h = (v, is, h)
 not_checked x v faults.NoMemory is h = tt
+
+-- protected bytes with a fault have no headers that are taken
+pub not_good : (bytes : List ℕ) (e : CoseFault) → CheckedAs {T = Unit {0}} bytes (Err e) → (e ≡ faults.NoMemory → ⊥) → IsGood bytes → ⊥
+not_good bytes (faults.NotCose f) h other good = h
+not_good bytes faults.Shape h other good = h good.headers good.wrapped
+not_good bytes faults.WrongAlg h other good = h.wrong (subst IsHssLms (wraps_one bytes good.headers h.headers good.wrapped h.wrapped) good.algorithm)
+not_good bytes faults.Critical h other good = h.critical (subst IsUncritical (wraps_one bytes good.headers h.headers good.wrapped h.wrapped) good.uncritical)
+not_good bytes faults.NoMemory h other good = other refl
 
 pub is_found : (bytes : List ℕ) (x : Item) (r : Result Sign1 CoseFault) → Spells x bytes → ReadAs x r → IfOk r (λ v. Sign1Is v bytes)
 is_found bytes x (Ok v) s h = record { form = has_form bytes x v h.1.headers s h.0 h.1.wrapped; algorithm = h.1.algorithm; uncritical = h.1.uncritical }

@@ -1,7 +1,6 @@
 -- Header maps (RFC 9052, section 3).
-use Rattle.std.specs.Prelude.{◌≡◌, ◌⊎◌, ◌==◌, ℕ, Bool, false, List, [], ◌∷◌, Option, None, Some, Result, Ok, Err, if◌then◌else◌}
-use Rattle.cbor_core.specs.declared.item.Item.{Item, out-Item}
-use Rattle.cbor_core.specs.declared.item.Item.TheOpen.{Item-F}
+use Rattle.std.specs.Prelude.{◌≡◌, ◌⊎◌, ℕ, List, [], Option, None, Some, Result, Ok, Err}
+use Rattle.cbor_core.specs.declared.item.Item.{Item}
 use Rattle.cbor_core.specs.declared.item.Item.TheVariants as i
 use Rattle.cbor_core.specs.declared.item.Pair.{Pair}
 use Rattle.cbor_core.specs.Spelling.{Spells}
@@ -29,15 +28,6 @@ bytes_if (Some x) = bytes_of x
 -- the key identifier: the byte string at the label kid (RFC 9052, section 3.1)
 abbrev pub kid_of : List Pair → Option (List ℕ)
 kid_of headers = bytes_if (field HEADER_KID headers)
-
-abbrev pub negative_labelled_by : ℕ → Item-F Item Pair → Bool
-negative_labelled_by label (Item-F.Negative n) = n == label
-negative_labelled_by label _ = false
-
--- the value of the first pair whose key is the number -1-n
-abbrev pub negative_field : ℕ → List Pair → Option Item
-negative_field label [] = None
-negative_field label (p ∷ ps) = if negative_labelled_by label (out-Item p.key) then Some p.value else negative_field label ps
 
 -- ---- what the parts of the reader answer
 

@@ -10,7 +10,7 @@ use Rattle.cose_core.specs.declared.key.CoseKey.{CoseKey}
 use Rattle.cose_core.specs.declared.fault.KeyFault.{KeyFault}
 use Rattle.cose_core.specs.declared.fault.KeyFault.TheVariants as faults
 use Rattle.cose_core.specs.declared.labels.TheConstants.{ALG_HSS_LMS, KEY_KTY, KEY_KID, KEY_ALG, KEY_PUB, KTY_HSS_LMS}
-use Rattle.cose_core.specs.Headers.{negative_field}
+use Rattle.cbor_fields.specs.Views.{negative_field}
 
 -- the type is HSS-LMS, and the key is for no other algorithm (RFC 8778, section 3)
 pub record IsForHssLms (pairs : List Pair) : Type 0 where

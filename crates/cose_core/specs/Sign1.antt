@@ -3,7 +3,7 @@ use Rattle.std.specs.Prelude.{◌≡◌, ◌⊎◌, ℕ, List, [], ◌∷◌, Op
 use Rattle.cbor_core.specs.declared.item.Item.{Item}
 use Rattle.cbor_core.specs.declared.item.Item.TheVariants as i
 use Rattle.cbor_core.specs.declared.item.Pair.{Pair}
-use Rattle.cbor_core.specs.Spelling.{Spells}
+use Rattle.cbor_core.specs.Spelling.{IsProper, Spells}
 use Rattle.cbor_core.specs.Law.{IsFaultyWhole}
 use Rattle.cose_core.specs.declared.sign1.Sign1.{Sign1}
 use Rattle.cose_core.specs.declared.fault.CoseFault.{CoseFault}
@@ -79,6 +79,11 @@ pub record HasGoodHeaders (v : Sign1) : Type 0 where
   pub wrapped : Wraps v.protected headers
   pub algorithm : IsHssLms headers
   pub uncritical : IsUncritical headers
+
+-- A value that is written and read again: its tagged form is proper, and its headers are taken.
+pub record IsProperSign1 (v : Sign1) : Type 0 where
+  pub encoded : IsProper (tagged v)
+  pub headers : HasGoodHeaders v
 
 -- the tagged form of bytes that are a COSE_Sign1: these bytes, or the tag's one byte and these bytes
 pub record IsTaggedForm (v : Sign1) (written : List ℕ) : Type 0 where

@@ -1,37 +1,11 @@
-ghost use Rattle.std.specs.Prelude.{◌≡◌, ◌↔◌, IsTrue};
-ghost use Rattle.std.specs.Option.{option_copied};
-ghost use Rattle.cbor_core.specs.declared.item.Item.{out-Item};
-ghost use Rattle.cose_core.specs.Headers.{negative_labelled_by, JudgedAs, UnwrapsAs};
-ghost use Rattle.cose_core.specs.Headers as Headers;
-ghost use Rattle.cose_core.specs.Reading.{CheckedAs};
+ghost use Rattle.std.specs.Prelude.{◌≡◌, ◌↔◌, IsTrue, IfOk};
+ghost use Rattle.cose_core.specs.Headers.{JudgedAs, UnwrapsAs};
+ghost use Rattle.cose_core.specs.Reading.{CheckedAs, IsGood};
 
 use crate::fault::CoseFault;
 use crate::labels::{ALG_HSS_LMS, HEADER_ALG, HEADER_CRIT};
-use cbor_core::{CborFault, Item, List, Pair, decode_whole, field};
+use cbor_core::{CborFault, Item, List, NoMemory, OrMemory, Pair, decode_whole, field};
 use std::alloc::Global;
-
-/// Whether a key is the number -1-n with this n.
-fn is_negative_label(key: &Item, label: u64) -> bool
-    ensures { result ≡ negative_labelled_by label (out-Item key.now) }
-{
-    match key {
-        Item::Negative(n) => *n == label,
-        _ => false,
-    }
-}
-
-/// The value of the first pair whose key is the negative number -1-`label`. None exactly where no key
-/// is.
-pub fn negative_field(pairs: &[Pair], label: u64) -> Option<&Item>
-    ensures { option_copied result ≡ Headers.negative_field label pairs.now }
-{
-    for pair in pairs {
-        if is_negative_label(&pair.key, label) {
-            return Some(&pair.value);
-        }
-    }
-    None
-}
 
 /// Whether an item names the algorithm HSS/LMS, -46.
 pub fn is_hss_lms(alg: &Item) -> bool
@@ -79,4 +53,17 @@ pub fn check_protected(alloc: Global, protected: &[u8]) -> Result<(), CoseFault>
     }
     let headers = unwrap_headers(alloc, protected)?;
     judge_headers(headers.as_slice())
+}
+
+/// Whether protected bytes are such that their message is read.
+pub fn are_good(alloc: Global, protected: &[u8]) -> OrMemory<bool>
+    ensures { IfOk result (λ b. IsTrue b ↔ IsGood protected.now) }
+{
+    match check_protected(alloc, protected) {
+        Ok(()) => Ok(true),
+        Err(fault) => match fault {
+            CoseFault::NoMemory => Err(NoMemory),
+            _ => Ok(false),
+        },
+    }
 }

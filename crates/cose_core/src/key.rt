@@ -1,14 +1,15 @@
 ghost use Rattle.std.specs.Prelude.{◌≡◌, ◌⊎◌, ◌↔◌, IsTrue, IfOk, IfErr, option_map};
 ghost use Rattle.cbor_core.specs.Spelling.{Spells};
 ghost use Rattle.cbor_core.specs.Views.{field};
-ghost use Rattle.cose_core.specs.Headers as Headers;
+ghost use Rattle.cbor_fields.specs.Views as Views;
 ghost use Rattle.cose_core.specs.Headers.{bytes_if};
 ghost use Rattle.cose_core.specs.Key.{IsForHssLms, KeyReadAs, kid_if};
 
 use crate::fault::KeyFault;
-use crate::headers::{is_hss_lms, negative_field};
+use crate::headers::is_hss_lms;
 use crate::labels::{ALG_HSS_LMS, KEY_ALG, KEY_KID, KEY_KTY, KEY_PUB, KTY_HSS_LMS};
 use cbor_core::{Item, List, Octets, OrMemory, Pair, decode_whole, encode, field};
+use cbor_fields::negative_field;
 use std::alloc::Global;
 
 /// An HSS/LMS public key with its identifier: COSE_Key (RFC 9052, section 7; RFC 8778, section 3).
@@ -57,7 +58,7 @@ fn kid_bytes(pairs: &[Pair]) -> Option<Option<&[u8]>>
 
 /// The public part in a key's pairs. None exactly where no byte string is there.
 fn public_bytes(pairs: &[Pair]) -> Option<&[u8]>
-    ensures { option_map (λ x. x.now) result ≡ bytes_if (Headers.negative_field KEY_PUB pairs.now) }
+    ensures { option_map (λ x. x.now) result ≡ bytes_if (Views.negative_field KEY_PUB pairs.now) }
 {
     negative_field(pairs, KEY_PUB)?.as_bytes()
 }

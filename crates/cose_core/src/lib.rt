@@ -15,7 +15,6 @@ mod signed;
 mod tests;
 
 pub use fault::{CoseFault, KeyFault};
-pub use headers::negative_field;
 pub use key::CoseKey;
 pub use labels::{
     ALG_HSS_LMS, HEADER_ALG, HEADER_CRIT, HEADER_KID, KEY_ALG, KEY_KID, KEY_KTY, KEY_PUB,

@@ -1,15 +1,15 @@
 ghost use Rattle.std.specs.Prelude.{◌≡◌, ◌⊎◌, ◌↔◌, IsTrue, IfOk, IfErr, option_map};
 ghost use Rattle.cbor_core.specs.Spelling.{IsProper, Spells};
-ghost use Rattle.cbor_core.specs.Views.{bytes_of, map_of};
 ghost use Rattle.cose_core.specs.Reading.{content_of, payload_of, four_by, members_by, form_of, ReadAs};
 ghost use Rattle.cose_core.specs.Sign1 as Sign1s;
 
 use crate::fault::CoseFault;
-use crate::headers::check_protected;
+use crate::headers::{are_good, check_protected};
 use crate::labels::{HEADER_KID, SIGN1_TAG};
 use cbor_core::{
     Boxed, Item, List, Octets, OrMemory, Pair, copy_pairs, decode_whole, encode, field, is_proper,
 };
+use cbor_fields::{into_bytes, into_map};
 use std::alloc::Global;
 
 /// A message with one signature: COSE_Sign1 (RFC 9052, section 4.2).
@@ -26,26 +26,6 @@ pub struct Sign1 {
     pub payload: Option<Octets>,
     /// The signature.
     pub signature: Octets,
-}
-
-/// The bytes of a byte string, moved.
-fn into_bytes(item: Item) -> Option<Octets>
-    ensures { result ≡ bytes_of item }
-{
-    match item {
-        Item::Bytes(bytes) => Some(bytes),
-        _ => None,
-    }
-}
-
-/// The pairs of a map, moved.
-fn into_map(item: Item) -> Option<List<Pair>>
-    ensures { result ≡ map_of item }
-{
-    match item {
-        Item::Map(pairs) => Some(pairs),
-        _ => None,
-    }
 }
 
 /// A payload, moved: bytes, or null for none.
@@ -128,7 +108,7 @@ fn read_item(alloc: Global, item: Item) -> Result<Sign1, CoseFault>
 
 impl Sign1 {
     ghost use Rattle.cose_core.specs.Headers.{kid_of};
-    ghost use Rattle.cose_core.specs.Sign1.{Sign1Is, RefusedAs, IsFound, IsRefused, HasGoodHeaders, IsTaggedForm, untagged, tagged};
+    ghost use Rattle.cose_core.specs.Sign1.{Sign1Is, RefusedAs, IsFound, IsRefused, IsProperSign1, IsTaggedForm, untagged, tagged};
 
     /// Reads the COSE_Sign1 that all the bytes spell, with the tag 18 or without (RFC 9052, section
     /// 4.2).
@@ -172,23 +152,27 @@ impl Sign1 {
         Ok(Item::Tag(SIGN1_TAG, Boxed::new(alloc, Item::Array(members))?))
     }
 
-    /// Whether the tagged form is proper: its keys ascend, and the tag is no seventeenth container. It
-    /// takes memory for one encoding, and is refused for want of it alone.
+    /// Whether the value is proper: its tagged form is, whose keys ascend and whose tag is no
+    /// seventeenth container, and its protected bytes wrap headers with `1: -46` and without 2. It takes
+    /// memory for one encoding and for those headers, and is refused for want of it alone.
     pub fn is_proper(&self, alloc: Global) -> OrMemory<bool>
-        ensures { IfOk result (λ b. IsTrue b ↔ IsProper (tagged self.now)) }
+        ensures { IfOk result (λ b. IsTrue b ↔ IsProperSign1 self.now) }
     {
+        if !are_good(alloc, self.protected.as_slice())? {
+            return Ok(false);
+        }
         let item = self.to_item(alloc)?;
         is_proper(alloc, &item)
     }
 
-    /// The tagged form of a proper value (RFC 9052, section 4.2): tag 18 and the four members.
-    /// `is_proper` tells which values are. Refused for want of memory alone.
+    /// The tagged form of a value (RFC 9052, section 4.2): tag 18 and the four members. Its item is
+    /// proper, as it is of each value for which `is_proper` says yes. Refused for want of memory alone.
     pub fn write(&self, alloc: Global) -> OrMemory<Octets>
         requires { IsProper (tagged self.now) }
         // The bytes spell the tagged form.
         ensures spelled { IfOk result (λ bytes. Spells (tagged self.now) bytes) }
-        // They are read as this value, where its protected headers are such that a message is read.
-        ensures again { IfOk result (λ bytes. HasGoodHeaders self.now → Sign1Is self.now bytes) }
+        // They are read as this value, where it is proper.
+        ensures again { IfOk result (λ bytes. IsProperSign1 self.now → Sign1Is self.now bytes) }
         // Of what was read, they are the bytes that it was read from, in their tagged form.
         ensures form { IfOk result (λ bytes. IsTaggedForm self.now bytes) }
     {

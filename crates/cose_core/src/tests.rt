@@ -1,4 +1,4 @@
-use crate::{CoseFault, CoseKey, KeyFault, Sign1, negative_field, signed_bytes};
+use crate::{CoseFault, CoseKey, KeyFault, Sign1, signed_bytes};
 use cbor_core::{Fault, Item, List, Octets, Pair, Why};
 use std::alloc::Global;
 use std::test::Fail;
@@ -133,24 +133,35 @@ fn reads_a_detached_payload(rt: HostRuntime) -> Result<(), Fail> {
     Ok(())
 }
 
-/// A value whose headers do not ascend is not proper.
+/// What is proper: HSS/LMS headers, none of them critical, and labels that ascend.
 #[test]
-fn knows_what_is_not_proper(rt: HostRuntime) -> Result<(), Fail> {
+fn knows_what_is_proper(rt: HostRuntime) -> Result<(), Fail> {
     let alloc = rt.alloc();
-    let mut unprotected = List::new(alloc);
-    for label in [4, 4] {
-        unprotected.push(Pair {
-            key: Item::Unsigned(label),
-            value: Item::Null,
-        })?;
+    let rows: [(&[u8], [u64; 2], bool); 6] = [
+        (&PROTECTED, [4, 5], true),
+        (&PROTECTED, [4, 4], false),
+        // ES256, critical headers, no headers, and no map
+        (&[0xa1, 0x01, 0x26], [4, 5], false),
+        (&[0xa2, 0x01, 0x38, 0x2d, 0x02, 0x81, 0x01], [4, 5], false),
+        (&[], [4, 5], false),
+        (&[0x80], [4, 5], false),
+    ];
+    for (protected, labels, is_proper) in rows {
+        let mut unprotected = List::new(alloc);
+        for label in labels {
+            unprotected.push(Pair {
+                key: Item::Unsigned(label),
+                value: Item::Null,
+            })?;
+        }
+        let value = Sign1 {
+            protected: octets(alloc, protected)?,
+            unprotected,
+            payload: None,
+            signature: Octets::new(alloc),
+        };
+        assert!(rt; value.is_proper(alloc)? == is_proper);
     }
-    let value = Sign1 {
-        protected: octets(alloc, &PROTECTED)?,
-        unprotected,
-        payload: None,
-        signature: Octets::new(alloc),
-    };
-    assert!(rt; !value.is_proper(alloc)?);
     Ok(())
 }
 
@@ -205,21 +216,4 @@ fn refuses_keys(rt: HostRuntime) -> Result<(), Fail> {
     assert!(rt; key.kid == None);
     assert!(rt; key.public == octets(alloc, &[0x07])?);
     Ok(())
-}
-
-/// A negative label is found, and no unsigned one for it.
-#[test]
-fn finds_a_negative_label(rt: HostRuntime) {
-    let pairs = [
-        Pair {
-            key: Item::Unsigned(0),
-            value: Item::Null,
-        },
-        Pair {
-            key: Item::Negative(0),
-            value: Item::Truth(true),
-        },
-    ];
-    assert!(rt; negative_field(&pairs, 0).is_some());
-    assert!(rt; negative_field(&pairs, 1).is_none());
 }

@@ -6,3 +6,4 @@ pub mod Scan
 pub mod Halves
 pub mod Changes
 pub mod OneList
+pub mod Placed

@@ -1,5 +1,5 @@
 -- What a journal keeps of the list in its region, and when that is true of an image.
-use Rattle.std.specs.Prelude.{◌≡◌, ℕ, ◌+◌, ◌≤◌, Bool, List, length}
+use Rattle.std.specs.Prelude.{◌≡◌, ℕ, ◌+◌, ◌≤◌, Bool, List, Some, length, take, drop, slice_get}
 use Rattle.journal_core.specs.declared.region.Region.{Region}
 use Rattle.journal_core.specs.declared.place.Place.{Place}
 use Rattle.journal_core.specs.Frames.{frames}
@@ -34,6 +34,11 @@ pub record Fits (journal : Kept) (image : List ℕ) (bodies : List (List ℕ)) :
   pub selector : selected journal.region image ≡ journal.second
   pub stands : RegionStands journal.region image bodies
   pub keeps : Keeps journal bodies
+
+-- the body of that index stands in the image from an offset on, and has so many bytes
+pub record IsBodyAt (index at size : ℕ) (image : List ℕ) (bodies : List (List ℕ)) : Type 0 where
+  pub within : at + size ≤ length image
+  pub body : slice_get bodies index ≡ Some (take size (drop at image))
 
 -- the same but for the room
 pub record SameBut (old new : Kept) : Type 0 where

@@ -1,7 +1,7 @@
-ghost use Rattle.std.specs.Prelude.{◌≡◌, ◌+◌, ◌<◌, ◌≤◌, ◌^◌, ℕ, length, OnOk, OnErr, slice_get, Some, not};
+ghost use Rattle.std.specs.Prelude.{◌≡◌, ◌+◌, ◌<◌, ◌≤◌, ◌^◌, ℕ, List, length, OnOk, OnErr, slice_get, Some, not};
 ghost use Rattle.journal_core.specs.declared.place.Place.{Place};
 ghost use Rattle.journal_core.specs.Region.{half_at, is_second, region_size};
-ghost use Rattle.journal_core.specs.Kept.{Kept, SameBut};
+ghost use Rattle.journal_core.specs.Kept.{Kept, Fits, IsBodyAt, SameBut};
 ghost use Rattle.journal_core.specs.Scanning.{IsEmpty, TakesIn};
 
 use crate::place::Place;
@@ -24,13 +24,15 @@ pub struct Journal {
 impl Model for Journal {
     ghost use Rattle.std.specs.Prelude.{◌-◌, ◌+◌, ◌*◌, ◌<◌, ◌≤◌, ◌^◌};
     ghost use Rattle.std.specs.Vec.{vec_len, vec_capacity};
+    ghost use Rattle.journal_core.specs.Place.{AllLieIn};
+    ghost use Rattle.journal_core.specs.Region.{half_at};
     ghost use Rattle.journal_core.specs.Kept.{Kept};
 
     ghost Value = { Kept };
 
     ghost view = { λ it. record { region = it.region; second = it.second; places = it.places.items; used = it.used; spare = vec_capacity it.places - vec_len it.places } };
 
-    ghost invariant = { λ it. (it.region.at + 16 + 2 * it.region.half < 2 ^ 64) × (it.used ≤ it.region.half) };
+    ghost invariant = { λ it. (it.region.at + 16 + 2 * it.region.half < 2 ^ 64) × (it.used ≤ it.region.half) × AllLieIn (half_at it.region it.second) it.used it.places.items };
 }
 
 impl Journal {
@@ -87,16 +89,25 @@ impl Journal {
 
     /// The number of bodies.
     pub fn count(&self) -> u64
-        ensures { result ≡ length self.now.places }
+        ensures places { result ≡ length self.now.places }
+        // Of each list for which its region stands.
+        ensures bodies { (image : List ℕ) (bodies : List (List ℕ)) → Fits self.now image bodies → result ≡ length bodies }
     {
         self.places.len() as u64
     }
 
     /// Where the body of an index lies in the image, and its length in bytes. The index is below the
-    /// count.
+    /// count. The range is within the region, and the body is what a load of it gives.
     pub fn place(&self, index: u64) -> (u64, u64)
         requires { index < length self.now.places }
-        ensures { slice_get self.now.places index ≡ Some (record { at = result.0; length = result.1 }) }
+        ensures place { slice_get self.now.places index ≡ Some (record { at = result.0; length = result.1 }) }
+
+        // It is behind the selector and within the region, whatever the image is.
+        ensures after { self.now.region.at + 16 ≤ result.0 }
+        ensures within { result.0 + result.1 ≤ self.now.region.at + region_size self.now.region }
+
+        // The body is there, in each image and of each list that the journal fits.
+        ensures body { (image : List ℕ) (bodies : List (List ℕ)) → Fits self.now image bodies → IsBodyAt index result.0 result.1 image bodies }
     {
         let place = self.places[index as usize];
         (place.at, place.length)

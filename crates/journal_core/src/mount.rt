@@ -4,7 +4,7 @@ ghost use Rattle.board_core.specs.Contents.{Same};
 ghost use Rattle.board_core.specs.Moments.{Passes, NoMoment};
 ghost use Rattle.board_core.specs.Calls.{DiskCause};
 ghost use Rattle.journal_core.specs.Region.{selected};
-ghost use Rattle.journal_core.specs.Kept.{IsWithin};
+ghost use Rattle.journal_core.specs.Kept.{IsWithin, IsOf};
 ghost use Rattle.journal_core.specs.Scanning.{IsEmpty, Scans, GateIs, FitsIn, behind, TakesIn};
 ghost use Rattle.journal_core.specs.Outcome.{DiskAlone, Mounts};
 
@@ -43,6 +43,7 @@ impl Journal {
     ) -> Result<Journal, JournalFault>
         requires { IsWithin region (B.extent board.old) }
         ensures mounts { B.told → Mounts region (B.now board.old).bytes result }
+        ensures region { IfOk result (λ journal. journal.region ≡ region) }
         ensures disk_fault { result ≡ Err JournalFault.DiskFault → Rose (B.faults board.old).disk (B.faults board.new).disk }
         ensures counts { DiskAlone (B.faults board.old) (B.faults board.new) }
         ensures extent { B.extent board.new ≡ B.extent board.old }
@@ -66,6 +67,7 @@ impl Journal {
         requires within { IsWithin self.region (B.extent board.old) }
         requires empty { IsEmpty self }
         ensures mounts { B.told → Scans self (B.now board.old).bytes result }
+        ensures is_of { IfOk result (IsOf self) }
         ensures disk_fault { result ≡ Err JournalFault.DiskFault → Rose (B.faults board.old).disk (B.faults board.new).disk }
         ensures counts { DiskAlone (B.faults board.old) (B.faults board.new) }
         ensures extent { B.extent board.new ≡ B.extent board.old }

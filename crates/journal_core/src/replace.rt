@@ -38,6 +38,7 @@ impl Journal {
         ensures disk_fault { result ≡ Err AppendFault.DiskFault → Rose (B.faults board.old).disk (B.faults board.new).disk }
 
         // Whatever it answers.
+        ensures region { self.new.region ≡ self.old.region }
         ensures counts { DiskAlone (B.faults board.old) (B.faults board.new) }
         ensures extent { B.extent board.new ≡ B.extent board.old }
         ensures stores { B.told → Stores (length (frames framed.now) + 2) (B.now board.old) (B.now board.new) }
