@@ -45,10 +45,17 @@ module _ (head rest rest2 rest3 config zeros : List ℕ) (n : ℕ) (marked : hea
       let mark : length (codes "TEEPIMG1") ≡ 8 = refl in
       let layout : length (to_be_bytes w32 1) ≡ 4 = refl in
       let number : length (to_be_bytes w32 n) ≡ 4 = refl in
-      let size : length head ≡ 16 + (length config + length zeros) = omega (arith, ap length whole, mark, layout, number,
-          length-append (codes "TEEPIMG1") (to_be_bytes w32 1 ++ (to_be_bytes w32 n ++ (config ++ zeros))),
-          length-append (to_be_bytes w32 1) (to_be_bytes w32 n ++ (config ++ zeros)),
-          length-append (to_be_bytes w32 n) (config ++ zeros), length-append config zeros) in
+      let size : length head ≡ 16 + (length config + length zeros) = omega (
+        arith,
+        ap length whole,
+        mark,
+        layout,
+        number,
+        length-append (codes "TEEPIMG1") (to_be_bytes w32 1 ++ (to_be_bytes w32 n ++ (config ++ zeros))),
+        length-append (to_be_bytes w32 1) (to_be_bytes w32 n ++ (config ++ zeros)),
+        length-append (to_be_bytes w32 n) (config ++ zeros),
+        length-append config zeros,
+      ) in
       let left : length zeros ≡ CONFIG_LIMIT - length config = omega (arith, size, head_size, config_size, short) in
       let zeros_is : zeros ≡ replicate (CONFIG_LIMIT - length config) 0 = zeros_are zeros all ∙ ap (λ (k : ℕ). replicate k 0) left in
       record {
@@ -66,7 +73,7 @@ module _ (head rest rest2 rest3 config zeros : List ℕ) (n : ℕ) (marked : hea
       let n_is : n ≡ length v = sym (from_be_bytes-to_be_bytes_4 n fits) ∙ ap (from_be_bytes w32) numbers ∙ from_be_bytes-to_be_bytes_4 (length v) short in
       let bodies : config ++ zeros ≡ more = ap (drop 4) behind in
       let ends : zeros ≡ replicate (CONFIG_LIMIT - length v) 0 =
-          sym (drop_at config zeros n config_size) ∙ ap (drop n) bodies ∙ drop_at v (replicate (CONFIG_LIMIT - length v) 0) n (sym n_is) in
+      sym (drop_at config zeros n config_size) ∙ ap (drop n) bodies ∙ drop_at v (replicate (CONFIG_LIMIT - length v) 0) n (sym n_is) in
       let all : all_zeros zeros ≡ true = ap all_zeros ends ∙ are_zeros (CONFIG_LIMIT - length v) in
       let wrong : false ≡ true = sym not_all ∙ all in
       cc

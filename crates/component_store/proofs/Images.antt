@@ -19,11 +19,18 @@ head_size config short =
     let mark : length (codes "TEEPIMG1") ≡ 8 = refl in
     let layout : length (to_be_bytes w32 1) ≡ 4 = refl in
     let number : length (to_be_bytes w32 (length config)) ≡ 4 = refl in
-    omega (arith, short, mark, layout, number,
-        length-append (codes "TEEPIMG1") (to_be_bytes w32 1 ++ (to_be_bytes w32 (length config) ++ (config ++ zeros_behind config))),
-        length-append (to_be_bytes w32 1) (to_be_bytes w32 (length config) ++ (config ++ zeros_behind config)),
-        length-append (to_be_bytes w32 (length config)) (config ++ zeros_behind config), length-append config (zeros_behind config),
-        length-replicate {A = ℕ} (CONFIG_LIMIT - length config) 0)
+    omega (
+      arith,
+      short,
+      mark,
+      layout,
+      number,
+      length-append (codes "TEEPIMG1") (to_be_bytes w32 1 ++ (to_be_bytes w32 (length config) ++ (config ++ zeros_behind config))),
+      length-append (to_be_bytes w32 1) (to_be_bytes w32 (length config) ++ (config ++ zeros_behind config)),
+      length-append (to_be_bytes w32 (length config)) (config ++ zeros_behind config),
+      length-append config (zeros_behind config),
+      length-replicate {A = ℕ} (CONFIG_LIMIT - length config) 0,
+    )
 
 -- a head is that of one configuration
 one_head : (a b : List ℕ) → length a ≤ CONFIG_LIMIT → length b ≤ CONFIG_LIMIT → head_bytes a ≡ head_bytes b → a ≡ b

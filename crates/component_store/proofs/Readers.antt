@@ -45,7 +45,7 @@ one_params x y z a b first second =
 one_anchors : (x : Item) (v w : Anchors) → AnchorsIs v x → AnchorsIs w x → v ≡ w
 one_anchors x v w first second =
     is_only x first.managers first.authors (Ok v) first.small.form.array
-        ((first.small.form.manager, first.small.form.author), (first.small.manager, first.small.author), first.manager, first.author) w second
+    ((first.small.form.manager, first.small.form.author), (first.small.manager, first.small.author), first.manager, first.author) w second
 
 abbrev config_of : DeviceIds → ℕ → KeyParams → List ℕ → Anchors → Config
 config_of device quota params seed anchors = record { device = device; quota = quota; params = params; key_seed = seed; anchors = anchors }

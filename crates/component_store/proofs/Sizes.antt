@@ -62,7 +62,7 @@ hss_size public is =
 wrapped_size : (public : List ℕ) (x : Item) → Wraps public x → length (spelling (wrapped_key public)) ≤ 132
 wrapped_size public x w =
     let inner : length (spelling (written_key (record { kid = None; public = public }))) ≤ length public + 63 =
-        rw (key_bytes public) (summed _ _ _ _ _ _ _ public (head_size 5 3) (head_size 0 1) (head_size 0 5) (head_size 0 3) (head_size 1 45) (head_size 1 0) (head_size 2 (length public))) in
+    rw (key_bytes public) (summed _ _ _ _ _ _ _ public (head_size 5 3) (head_size 0 1) (head_size 0 5) (head_size 0 3) (head_size 1 45) (head_size 1 0) (head_size 2 (length public))) in
     omega (arith, string_size (spelling (written_key (record { kid = None; public = public }))), hss_size public w.known)
 
 keys_size : (keys : List (List ℕ)) (xs : List Item) → AllZip Wraps keys xs → length (spellings (map wrapped_key keys)) ≤ 132 * length keys
@@ -124,8 +124,8 @@ anchors_size v x is =
     let ms = map wrapped_key v.manager in
     let bs = map wrapped_key v.author in
     let both : length (spellings (i.Array ms ∷ i.Array bs ∷ [])) ≤ 4242 =
-        rw (length-append (spelling (i.Array ms)) (spelling (i.Array bs) ++ []), length-append (spelling (i.Array bs)) [])
-        (omega (arith, array_size ms, array_size bs, keys_size v.manager is.managers is.manager, keys_size v.author is.authors is.author, managers, authors)) in
+    rw (length-append (spelling (i.Array ms)) (spelling (i.Array bs) ++ []), length-append (spelling (i.Array bs)) [])
+    (omega (arith, array_size ms, array_size bs, keys_size v.manager is.managers is.manager, keys_size v.author is.authors is.author, managers, authors)) in
     omega (arith, array_size (i.Array ms ∷ i.Array bs ∷ []), both)
 
 nine : (a b c d e f g h k : List ℕ) → length (a ++ (b ++ (c ++ (d ++ (e ++ (f ++ (g ++ (h ++ (k ++ []))))))))) ≡ length a + length b + length c + length d + length e + length f + length g + length h + length k
@@ -135,12 +135,27 @@ parts_size : (v : Config) → Within v → length (spelling (written_config v)) 
 parts_size v w =
     let anchors = written_anchors v.anchors in
     let parts = i.Bytes v.device.vendor ∷ i.Bytes v.device.class ∷ i.Bytes v.device.device ∷ i.Unsigned v.quota
-        ∷ i.Unsigned v.params.levels ∷ i.Unsigned v.params.height ∷ i.Unsigned v.params.width ∷ i.Bytes v.key_seed ∷ anchors ∷ [] in
+    ∷ i.Unsigned v.params.levels ∷ i.Unsigned v.params.height ∷ i.Unsigned v.params.width ∷ i.Bytes v.key_seed ∷ anchors ∷ [] in
     let all = nine (spelling (i.Bytes v.device.vendor)) (spelling (i.Bytes v.device.class)) (spelling (i.Bytes v.device.device)) (spelling (i.Unsigned v.quota))
-        (spelling (i.Unsigned v.params.levels)) (spelling (i.Unsigned v.params.height)) (spelling (i.Unsigned v.params.width)) (spelling (i.Bytes v.key_seed)) (spelling anchors) in
-    omega (arith, array_size parts, all, string_size v.device.vendor, string_size v.device.class, string_size v.device.device, number_size v.quota,
-        number_size v.params.levels, number_size v.params.height, number_size v.params.width, string_size v.key_seed, anchors_size v.anchors w.anchors w.anchors_are,
-        w.device.vendor.most, w.device.class.most, w.device.device.most, w.seed)
+    (spelling (i.Unsigned v.params.levels)) (spelling (i.Unsigned v.params.height)) (spelling (i.Unsigned v.params.width)) (spelling (i.Bytes v.key_seed)) (spelling anchors) in
+    omega (
+      arith,
+      array_size parts,
+      all,
+      string_size v.device.vendor,
+      string_size v.device.class,
+      string_size v.device.device,
+      number_size v.quota,
+      number_size v.params.levels,
+      number_size v.params.height,
+      number_size v.params.width,
+      string_size v.key_seed,
+      anchors_size v.anchors w.anchors w.anchors_are,
+      w.device.vendor.most,
+      w.device.class.most,
+      w.device.device.most,
+      w.seed,
+    )
 
 pub written_size : (v : Config) → IsConfig v → length (spelling (written_config v)) ≤ CONFIG_LIMIT
 written_size v is = omega (arith, parts_size v (within v is.0 is.1))

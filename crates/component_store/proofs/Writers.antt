@@ -40,19 +40,33 @@ parts_of v = i.Bytes v.device.vendor ∷ i.Bytes v.device.class ∷ i.Bytes v.de
     ∷ i.Unsigned v.params.levels ∷ i.Unsigned v.params.height ∷ i.Unsigned v.params.width ∷ i.Bytes v.key_seed ∷ written_anchors v.anchors ∷ []
 
 pub config_proper : (v : Config) → IsProper (written_config v)
-config_proper v = array_proper 15 (parts_of v)
-    (string_proper 15 v.device.vendor, (string_proper 15 v.device.class, (string_proper 15 v.device.device, (number_proper 15 v.quota,
-    (number_proper 15 v.params.levels, (number_proper 15 v.params.height, (number_proper 15 v.params.width, (string_proper 15 v.key_seed, (anchors_proper 13 v.anchors, tt)))))))))
+config_proper v = array_proper 15 (parts_of v) (
+  string_proper 15 v.device.vendor,
+  (
+    string_proper 15 v.device.class,
+    (
+      string_proper 15 v.device.device,
+      (
+        number_proper 15 v.quota,
+        (number_proper 15 v.params.levels, (number_proper 15 v.params.height, (number_proper 15 v.params.width, (string_proper 15 v.key_seed, (anchors_proper 13 v.anchors, tt))))),
+      ),
+    ),
+  ),
+)
 
 -- the parts, as they are read
 written_is : (v : Config) (w : Within v) → AnchorsIs v.anchors (written_anchors v.anchors) → IsConfigItem (written_config v) v
-written_is v w anchors = (parts_of v, rw (i.outs-Array) refl, record {
-  ids = record { vendor_is = rw (i.outs-Bytes) refl; class_is = rw (i.outs-Bytes) refl; device_is = rw (i.outs-Bytes) refl; proper = w.device };
-  quota_is = record { number = rw (i.outs-Unsigned) refl; least = w.quota_least; most = w.quota_most };
-  params = record { levels_is = rw (i.outs-Unsigned) refl; height_is = rw (i.outs-Unsigned) refl; width_is = rw (i.outs-Unsigned) refl; proper = w.params };
-  seed_is = record { bytes = rw (i.outs-Bytes) refl; size = w.seed };
-  anchors_are = record { are = anchors };
-})
+written_is v w anchors = (
+  parts_of v,
+  rw (i.outs-Array) refl,
+  record {
+    ids = record { vendor_is = rw (i.outs-Bytes) refl; class_is = rw (i.outs-Bytes) refl; device_is = rw (i.outs-Bytes) refl; proper = w.device };
+    quota_is = record { number = rw (i.outs-Unsigned) refl; least = w.quota_least; most = w.quota_most };
+    params = record { levels_is = rw (i.outs-Unsigned) refl; height_is = rw (i.outs-Unsigned) refl; width_is = rw (i.outs-Unsigned) refl; proper = w.params };
+    seed_is = record { bytes = rw (i.outs-Bytes) refl; size = w.seed };
+    anchors_are = record { are = anchors };
+  },
+)
 
 pub written : (v : Config) (r : Result (List ℕ) NoMemory) → IsConfig v → AnchorsIs v.anchors (written_anchors v.anchors) → IfOk r (λ bytes. Spells (written_config v) bytes) → IfOk r (ConfigIs v)
 written v (Ok bytes) is anchors spelled = record {

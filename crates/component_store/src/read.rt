@@ -72,7 +72,11 @@ fn read_params(levels: &Item, height: &Item, width: &Item) -> Option<KeyParams>
         height: read_number(height)?,
         width: read_number(width)?,
     };
-    if params.is_proper() { Some(params) } else { None }
+    if params.is_proper() {
+        Some(params)
+    } else {
+        None
+    }
 }
 
 // A seed of 32 bytes.
@@ -111,7 +115,18 @@ fn read_anchors(alloc: Global, item: &Item) -> Result<Anchors, ConfigFault>
 fn read_parts(alloc: Global, parts: &[Item]) -> Result<Config, ConfigFault>
     ensures { Answers (PartsAre parts.now) result }
 {
-    let [vendor, class, device, quota, levels, height, width, seed, anchors] = parts else {
+    let [
+        vendor,
+        class,
+        device,
+        quota,
+        levels,
+        height,
+        width,
+        seed,
+        anchors,
+    ] = parts
+    else {
         return Err(ConfigFault::BadConfig);
     };
     read_rows(

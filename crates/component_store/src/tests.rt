@@ -18,7 +18,9 @@ fn changed(alloc: Global, from: usize, to: usize, bytes: &[u8]) -> Result<Octets
 // What an image is loaded as, from a board whose calls of these numbers fail.
 fn loaded(alloc: Global, image: &[u8], failing: &[u64]) -> Result<Config, MountFault> {
     let image = Octets::from_slice(alloc, image)?;
-    let failing = List::from_vec(Vec::from_slice(alloc, failing).map_err(|_| MountFault::NoMemory)?);
+    let failing = List::from_vec(Vec::from_slice(alloc, failing).map_err(
+        |_| MountFault::NoMemory,
+    )?);
     let mut board = MemoryBoard::new(alloc, Octets::new(alloc), image, 1, failing)?;
     load_config(alloc, &mut board)
 }
@@ -79,7 +81,11 @@ fn a_field_out_of_its_range_is_no_configuration(rt: HostRuntime) -> Result<(), F
     for (at, (from, to, bytes, good)) in table.iter().enumerate() {
         let read = Config::read(alloc, changed(alloc, *from, *to, bytes)?.as_slice());
         let fault = read.err();
-        let want = if *good { None } else { Some(ConfigFault::BadConfig) };
+        let want = if *good {
+            None
+        } else {
+            Some(ConfigFault::BadConfig)
+        };
         assert_eq!(rt; fault, want, "row {at}");
     }
     Ok(())
@@ -95,7 +101,10 @@ fn an_image_is_loaded_as_what_it_was_made_of(rt: HostRuntime) -> Result<(), Fail
     assert_eq!(rt; &bytes[..16], b"TEEPIMG1\0\0\0\x01\0\0\0\xc0".as_slice());
     assert_eq!(rt; &bytes[16..208], CONFIG.as_slice());
     assert!(rt; loaded(alloc, bytes, &[])? == config);
-    assert_eq!(rt; loaded(alloc, bytes, &[0]).err(), Some(MountFault::DiskFault));
+    assert_eq!(rt;
+        loaded(alloc, bytes, &[0]).err(),
+        Some(MountFault::DiskFault)
+    );
     let short = &bytes[..bytes.len() - 1];
     assert_eq!(rt; loaded(alloc, short, &[]).err(), Some(MountFault::BadImage));
     assert_eq!(rt; loaded(alloc, &[], &[]).err(), Some(MountFault::BadImage));
@@ -111,7 +120,11 @@ fn a_head_of_another_form_is_no_image(rt: HostRuntime) -> Result<(), Fail> {
     for at in [0, 7, 11, 12, 15, 208, 65_535] {
         let mut bytes = Vec::from_slice(alloc, image.as_slice())?;
         bytes[at] ^= 1;
-        assert_eq!(rt; loaded(alloc, &bytes, &[]).err(), Some(MountFault::BadImage), "byte {at}");
+        assert_eq!(rt;
+            loaded(alloc, &bytes, &[]).err(),
+            Some(MountFault::BadImage),
+            "byte {at}"
+        );
     }
     Ok(())
 }
