@@ -16,4 +16,4 @@ pub use cbor_core::{Boxed, Item, List, NoMemory, Octets, OrMemory, Pair, Utf8};
 pub use fault::{DiagFault, TextFault};
 pub use laws::exactly_one;
 pub use printer::print;
-pub use reader::read;
+pub use reader::{read, text_of};

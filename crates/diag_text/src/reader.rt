@@ -1,4 +1,5 @@
-ghost use Rattle.std.specs.Prelude.{◌≡◌, ◌≤◌, ◌<◌, ◌^◌, ℕ, [], ◌∷◌, length, codes, IfOk, OnOk, List};
+ghost use Rattle.std.specs.Prelude.{◌≡◌, ◌≤◌, ◌<◌, ◌^◌, ℕ, [], ◌∷◌, length, codes, IfOk, OnOk, IsOk, MatchResult, ◌↔◌, List};
+ghost use Rattle.std.specs.Str.{IsUtf8, IsValidUpTo};
 ghost use Rattle.cbor_core.specs.Place.{start};
 ghost use Rattle.cbor_core.specs.declared.item.Item.{Item};
 ghost use Rattle.cbor_core.specs.declared.item.Pair.{Pair};
@@ -10,7 +11,7 @@ ghost use Rattle.diag_text.specs.Reading.{Gives, Decides, whole_at, string_at, i
 ghost use Rattle.diag_text.specs.Faulty.{TextFaulty};
 
 use crate::cursor::Cursor;
-use crate::fault::DiagFault;
+use crate::fault::{DiagFault, TextFault};
 use crate::scan::{bad, read_bytes, read_number, read_text};
 use base_types::{Boxed, CBOR_DEPTH_LIMIT, List, Octets, Utf8};
 use cbor_core::{Item, Pair, encode};
@@ -272,4 +273,18 @@ pub fn read(alloc: Global, text: &str) -> Result<Item, DiagFault>
     ensures refused { (at : ℕ) → TextFaulty text.now at → IsRefused result at }
 {
     read_alone(alloc, text.as_bytes())
+}
+
+/// The bytes of a file as a text that may be read. Refused exactly where they are not UTF-8; the fault
+/// is placed behind the longest front of them that is.
+pub fn text_of(bytes: &[u8]) -> Result<&str, TextFault>
+    ensures text { MatchResult result (λ text. text.now ≡ bytes.now) (λ fault. IsValidUpTo bytes.now fault.at) }
+    ensures utf8 { IsOk result ↔ IsUtf8 bytes.now }
+{
+    match str::from_utf8(bytes) {
+        Ok(text) => Ok(text),
+        Err(fault) => Err(TextFault {
+            at: fault.valid_up_to(),
+        }),
+    }
 }

@@ -1,4 +1,4 @@
-use crate::{DiagFault, TextFault, exactly_one, print, read};
+use crate::{DiagFault, TextFault, exactly_one, print, read, text_of};
 use cbor_core::decode_whole;
 use std::test::Fail;
 
@@ -102,5 +102,12 @@ fn sixteen_containers_are_read(rt: HostRuntime) -> Result<(), Fail> {
     assert!(rt; read(alloc, "[[[[[[[[[[[[[[[[]]]]]]]]]]]]]]]]").is_ok());
     let deep = read(alloc, "[[[[[[[[[[[[[[[[[]]]]]]]]]]]]]]]]]");
     assert!(rt; deep == Err(DiagFault::Bad(TextFault { at: 16 })));
+    Ok(())
+}
+
+#[test]
+fn files_have_their_texts(rt: HostRuntime) -> Result<(), Fail> {
+    assert!(rt; text_of(b"[1]") == Ok("[1]"));
+    assert!(rt; text_of(&[0x22, 0xc3, 0xbc, 0xc3, 0x22]) == Err(TextFault { at: 3 }));
     Ok(())
 }

@@ -1,5 +1,5 @@
 -- What a host in memory answers to a read.
-use Rattle.std.proofs.Common.{◌≡◌, ℕ, Bool, true, false, List, Option, None, Some, Result, Ok, Err, refl, sym, ap, subst, ◌∙◌}
+use Rattle.std.proofs.Common.{◌≡◌, ℕ, Bool, true, List, Option, None, Some, Result, Ok, Err, refl, sym, ap, subst, ◌∙◌}
 use Rattle.teep_tool.specs.Contents.{Contents}
 use Rattle.teep_tool.specs.Calls.{Gives, ReadsFile}
 use Rattle.teep_tool.specs.Memory.{ReadAnswers}

@@ -1,5 +1,5 @@
 -- From the read of a file and the printing of its line to the whole of `show`.
-use Rattle.std.proofs.Common.{◌≡◌, ◌≢◌, ℕ, ◌<◌, ◌≤◌, List, ◌++◌, length, Option, Some, Ok, refl, sym, ap, subst, ◌∙◌, arith, inl, inr, ◌⊎◌}
+use Rattle.std.proofs.Common.{◌≡◌, ◌≢◌, ℕ, ◌≤◌, List, length, Option, Some, Ok, refl, sym, subst, ◌∙◌, arith, inl, inr}
 use Rattle.base_types.specs.Causes.{Rose}
 use Rattle.teep_tool.specs.Contents.{Contents}
 use Rattle.teep_tool.specs.Calls.{ReadsFile}

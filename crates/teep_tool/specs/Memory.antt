@@ -1,5 +1,5 @@
 -- What a host in memory holds and keeps.
-use Rattle.std.specs.Prelude.{◌≡◌, ◌+◌, ◌-◌, ◌^◌, ◌++◌, ℕ, min, List, [], Bool, true, false, not, Option, None, Some, IsSome, option_map, Result, Ok, Err, is_ok, ◌==◌, IsTrue, nat_eq, string_bytes}
+use Rattle.std.specs.Prelude.{◌≡◌, ◌+◌, ◌-◌, ◌^◌, ℕ, min, List, [], Bool, true, false, not, Option, None, Some, option_map, Result, Ok, Err, ◌==◌, nat_eq, string_bytes}
 use Rattle.std.specs.List.{list_any, find}
 use Rattle.std.specs.Cmp.Lexicographic.{pointwise}
 use Rattle.teep_tool.specs.Contents.{Contents}

@@ -1,4 +1,3 @@
-use Rattle.std.proofs.Common.{◌≡◌}
 use Rattle.teep_tool.proofs.Outcomes.{showed_from, exactly_from, rose_earlier}
 use Rattle.teep_tool.proofs.show.show.Goals as goal
 

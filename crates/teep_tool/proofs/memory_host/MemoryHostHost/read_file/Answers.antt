@@ -1,4 +1,4 @@
-use Rattle.std.proofs.Common.{◌≡◌, List, ℕ, None, Some, Err, sym, ap, ◌∙◌}
+use Rattle.std.proofs.Common.{◌≡◌, List, None, Some, Err, sym, ap, ◌∙◌}
 use Rattle.teep_tool.specs.Contents.{Contents}
 use Rattle.teep_tool.specs.Memory.{contents, works, file_in}
 use Rattle.teep_tool.specs.declared.memory_host.Named.{Named}
