@@ -1,4 +1,3 @@
-ghost use Rattle.std.specs.Prelude.{◌≡◌, [], ◌∷◌, IfOk};
 ghost use Rattle.teep_messages.specs.Rows.{reported_of, requested_of, operation_of, profile_of};
 ghost use Rattle.teep_messages.specs.Rows as Rows;
 ghost use Rattle.teep_messages.specs.Written as Written;

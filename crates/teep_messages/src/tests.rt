@@ -1,4 +1,4 @@
-use crate::{Message, MessageFault};
+use crate::{Message, MessageFault, one_spelling};
 use base_types::{Octets, OrMemory};
 use cbor_core::{Fault, Item, Why};
 use std::alloc::Global;
@@ -162,6 +162,65 @@ fn fields_are_read_and_others_kept(rt: HostRuntime) -> Result<(), Fail> {
     if let [first, second] = options.other.as_slice() {
         assert!(rt; first.key == Item::Unsigned(64) && first.value == Item::Null);
         assert!(rt; second.key == Item::Negative(0));
+    }
+    Ok(())
+}
+
+// What the message that bytes are is written as.
+fn written(alloc: Global, bytes: &[u8]) -> Result<Octets, MessageFault> {
+    let message = Message::read(alloc, bytes)?;
+    Ok(message.write(alloc)?)
+}
+
+#[test]
+fn messages_are_written_as_they_were_read(rt: HostRuntime) -> Result<(), Fail> {
+    let alloc = rt.alloc();
+    one_spelling();
+    let table: [&[u8]; 9] = [
+        // [1, {20: h'0102030405060708'}, [[[18, -46]]], [[-16, -46]], 2]
+        &[
+            0x85, 0x01, 0xa1, 0x14, 0x48, 1, 2, 3, 4, 5, 6, 7, 8, 0x81, 0x81, 0x82, 0x12, 0x38,
+            0x2d, 0x81, 0x82, 0x2f, 0x38, 0x2d, 0x02,
+        ],
+        // [1, {}, [[], [[18, null]]], [], 0]
+        &[
+            0x85, 0x01, 0xa0, 0x82, 0x80, 0x81, 0x82, 0x12, 0xf6, 0x80, 0x00,
+        ],
+        // [2, {6: 0, 20: h'0102030405060708'}]
+        &[
+            0x82, 0x02, 0xa2, 0x06, 0x00, 0x14, 0x48, 1, 2, 3, 4, 5, 6, 7, 8,
+        ],
+        // [3, {10: [], 20: h'0102030405060708'}]
+        &[
+            0x82, 0x03, 0xa2, 0x0a, 0x80, 0x14, 0x48, 1, 2, 3, 4, 5, 6, 7, 8,
+        ],
+        // [3, {1: 0, 6: 0, 9: null, 20: h'0102030405060708', 24: 1, -1: 0, "a": 0}]
+        &[
+            0x82, 0x03, 0xa7, 0x01, 0x00, 0x06, 0x00, 0x09, 0xf6, 0x14, 0x48, 1, 2, 3, 4, 5, 6, 7,
+            8, 0x18, 0x18, 0x01, 0x20, 0x00, 0x61, 0x61, 0x00,
+        ],
+        // [3, {2: h'0807060504030201', 3: [0, 1], 7: h'09', 11: "m", 12: "e", 13: "f", 20: h'0102030405060708'}]
+        &[
+            0x82, 0x03, 0xa7, 0x02, 0x48, 8, 7, 6, 5, 4, 3, 2, 1, 0x03, 0x82, 0x00, 0x01, 0x07,
+            0x41, 9, 0x0b, 0x61, 0x6d, 0x0c, 0x61, 0x65, 0x0d, 0x61, 0x66, 0x14, 0x48, 1, 2, 3, 4,
+            5, 6, 7, 8,
+        ],
+        // [3, {8: [{16: [h'01'], 17: 7}], 14: [{16: [h'01']}, {16: [h'02', h''], 17: 5, 18: true}], 15: [[h'03']]}]
+        &[
+            0x82, 0x03, 0xa3, 0x08, 0x81, 0xa2, 0x10, 0x81, 0x41, 1, 0x11, 0x07, 0x0e, 0x82, 0xa1,
+            0x10, 0x81, 0x41, 1, 0xa3, 0x10, 0x82, 0x41, 2, 0x40, 0x11, 0x05, 0x12, 0xf5, 0x0f,
+            0x81, 0x81, 0x41, 3,
+        ],
+        // [5, {20: h'0102030405060708'}]
+        &[0x82, 0x05, 0xa1, 0x14, 0x48, 1, 2, 3, 4, 5, 6, 7, 8],
+        // [6, {3: [0], 20: h'0102030405060708'}, 4]
+        &[
+            0x83, 0x06, 0xa2, 0x03, 0x81, 0x00, 0x14, 0x48, 1, 2, 3, 4, 5, 6, 7, 8, 0x04,
+        ],
+    ];
+    for (at, bytes) in table.iter().enumerate() {
+        let again = written(alloc, bytes)?;
+        assert_eq!(rt; again.as_slice(), *bytes, "row {at}");
     }
     Ok(())
 }
