@@ -5,7 +5,7 @@ use cbor_core::{Item, decode_whole, encode, is_proper};
 use hss_verify::{HssPublic, hss_verify};
 use lms_core::chain;
 use sha2::{Digest, Sha256};
-use std::alloc::Global;
+use std::alloc::{AllocError, Global};
 
 /// What is done in each round.
 #[derive(Clone, Copy, Debug)]
@@ -34,6 +34,7 @@ impl Work {
 
     /// In how many of the rounds the work had a good answer.
     pub fn done(self, alloc: Global, bytes: &[u8], rounds: u64) -> u64 {
+        keep_memory(alloc);
         match self {
             Work::Decode => decodes(alloc, bytes, rounds),
             Work::Encode => encodes(alloc, bytes, rounds),
@@ -43,6 +44,13 @@ impl Work {
             Work::Append => appends(alloc, rounds),
         }
     }
+}
+
+// Takes 30 MiB and gives them back, so that what the rounds give back stays with the process, as it does
+// where small messages come one after another. Else glibc hands it to the system after each round, and
+// the next round takes a fault for each page that it gets anew, a third of the time of `decode`.
+fn keep_memory(alloc: Global) {
+    let _much: Result<Vec<u8>, AllocError> = Vec::with_capacity(alloc, 30 << 20);
 }
 
 fn decodes(alloc: Global, bytes: &[u8], rounds: u64) -> u64 {
