@@ -1,23 +1,29 @@
 use crate::DeviceIds;
-use base_types::Octets;
+use base_types::{NoMemory, Octets};
+use std::alloc::Global;
 use std::test::Fail;
+
+// So many bytes.
+fn field(alloc: Global, size: usize) -> Result<Octets, NoMemory> {
+    let mut field = Octets::new(alloc);
+    for _ in 0..size {
+        field.push(7)?;
+    }
+    Ok(field)
+}
 
 #[test]
 fn each_field_has_1_to_64_bytes(rt: HostRuntime) -> Result<(), Fail> {
     let alloc = rt.alloc();
-    let long = [7u8; 65];
-    for place in 0..3 {
-        for length in 0..66 {
-            let mut fields = [1usize; 3];
-            fields[place] = length;
-            let [vendor, class, device] = fields;
+    for size in 0..66 {
+        let want = (1..=64).contains(&size);
+        for (vendor, class, device) in [(size, 1, 1), (1, size, 1), (1, 1, size)] {
             let ids = DeviceIds {
-                vendor: Octets::from_slice(alloc, &long[..vendor])?,
-                class: Octets::from_slice(alloc, &long[..class])?,
-                device: Octets::from_slice(alloc, &long[..device])?,
+                vendor: field(alloc, vendor)?,
+                class: field(alloc, class)?,
+                device: field(alloc, device)?,
             };
-            let want = (1..=64).contains(&length);
-            assert_eq!(rt; ids.is_proper(), want, "field {place}, length {length}");
+            assert_eq!(rt; ids.is_proper(), want, "sizes {vendor}, {class}, {device}");
         }
     }
     Ok(())
