@@ -5,7 +5,10 @@ use Rattle.teep_messages.specs.declared.message.Message.{Message as TeepMessage}
 use Rattle.teep_messages.specs.declared.message.Message.TheVariants as kinds
 use Rattle.teep_messages.proofs.Exact.{one_message, not_both}
 use Rattle.agent_core.specs.Frames.{Frame}
-use Rattle.agent_core.specs.Answers.{Answers, AnswersBytes, AnswersMessage, AnswersToken, RefusesBytes, Replies}
+use Rattle.cose_core.specs.declared.sign1.Sign1.{Sign1}
+use Rattle.trust_anchors.specs.declared.anchors.Anchors.{Anchors}
+use Rattle.agent_core.specs.Answers.{Answers, AnswersBytes, AnswersMessage, AnswersToken, RefusesBytes, AnswersSigned, RefusesUnsigned, AnswersContent, AnswersEnvelope, RefusesEnvelope, Replies}
+use Rattle.agent_core.proofs.Envelopes.{one_envelope, not_refused}
 use Rattle.agent_core.specs.declared.event.Event.{Event}
 use Rattle.agent_core.specs.declared.event.Event.TheVariants.{Message, Payload, FetchFailed, Strange}
 
@@ -28,16 +31,38 @@ to_bytes bytes reply other (inl a) (inr b) = absurd (not_both bytes a.message b.
 to_bytes bytes reply other (inr a) (inl b) = absurd (not_both bytes b.message a.fault b.message_is a.refused)
 to_bytes bytes reply other (inr a) (inr b) = a.reply_is ∙ sym b.reply_is
 
-pub same_reply : (event : Event) (reply other : Frame) → Answers event reply → Answers event other → reply ≡ other
-same_reply (Message bytes) reply other a b = to_bytes bytes reply other a b
-same_reply (Payload body) reply other a b = a ∙ sym b
-same_reply FetchFailed reply other a b = a ∙ sym b
-same_reply Strange reply other a b = a ∙ sym b
+by_signing : (anchors : Anchors) (envelope : Sign1) (payload : List ℕ) (reply other : Frame)
+    → AnswersSigned anchors envelope payload reply ⊎ RefusesUnsigned anchors envelope payload reply
+    → AnswersSigned anchors envelope payload other ⊎ RefusesUnsigned anchors envelope payload other → reply ≡ other
+by_signing anchors envelope payload reply other (inl a) (inl b) = to_bytes payload reply other a.answers b.answers
+by_signing anchors envelope payload reply other (inl a) (inr b) = absurd (b.unsigned a.signed)
+by_signing anchors envelope payload reply other (inr a) (inl b) = absurd (a.unsigned b.signed)
+by_signing anchors envelope payload reply other (inr a) (inr b) = a.reply_is ∙ sym b.reply_is
 
-pub same_replies : (events : List Event) (replies others : List Frame) → Replies events replies → Replies events others → replies ≡ others
-same_replies [] [] [] a b = refl
-same_replies [] [] (y ∷ ys) a b = absurd b
-same_replies [] (x ∷ xs) ys a b = absurd a
-same_replies (e ∷ es) [] ys a b = absurd a
-same_replies (e ∷ es) (x ∷ xs) [] a b = absurd b
-same_replies (e ∷ es) (x ∷ xs) (y ∷ ys) a b = let first = same_reply e x y a.0 b.0 in let more = same_replies es xs ys a.1 b.1 in cc
+by_content : (anchors : Anchors) (envelope : Sign1) (payload : Option (List ℕ)) (reply other : Frame)
+    → AnswersContent anchors envelope payload reply → AnswersContent anchors envelope payload other → reply ≡ other
+by_content anchors envelope None reply other a b = a ∙ sym b
+by_content anchors envelope (Some payload) reply other a b = by_signing anchors envelope payload reply other a b
+
+to_envelope : (anchors : Anchors) (bytes : List ℕ) (reply other : Frame) → AnswersEnvelope anchors bytes reply ⊎ RefusesEnvelope bytes reply
+    → AnswersEnvelope anchors bytes other ⊎ RefusesEnvelope bytes other → reply ≡ other
+to_envelope anchors bytes reply other (inl a) (inl b) =
+    let same : b.envelope ≡ a.envelope = one_envelope bytes b.envelope a.envelope b.envelope_is a.envelope_is in
+    by_content anchors a.envelope a.envelope.payload reply other a.answers (subst (λ (m : Sign1). AnswersContent anchors m m.payload other) same b.answers)
+to_envelope anchors bytes reply other (inl a) (inr b) = absurd (not_refused bytes a.envelope b.fault a.envelope_is b.refused)
+to_envelope anchors bytes reply other (inr a) (inl b) = absurd (not_refused bytes b.envelope a.fault b.envelope_is a.refused)
+to_envelope anchors bytes reply other (inr a) (inr b) = a.reply_is ∙ sym b.reply_is
+
+pub same_reply : (anchors : Anchors) (event : Event) (reply other : Frame) → Answers anchors event reply → Answers anchors event other → reply ≡ other
+same_reply anchors (Message bytes) reply other a b = to_envelope anchors bytes reply other a b
+same_reply anchors (Payload body) reply other a b = a ∙ sym b
+same_reply anchors FetchFailed reply other a b = a ∙ sym b
+same_reply anchors Strange reply other a b = a ∙ sym b
+
+pub same_replies : (anchors : Anchors) (events : List Event) (replies others : List Frame) → Replies anchors events replies → Replies anchors events others → replies ≡ others
+same_replies anchors [] [] [] a b = refl
+same_replies anchors [] [] (y ∷ ys) a b = absurd b
+same_replies anchors [] (x ∷ xs) ys a b = absurd a
+same_replies anchors (e ∷ es) [] ys a b = absurd a
+same_replies anchors (e ∷ es) (x ∷ xs) [] a b = absurd b
+same_replies anchors (e ∷ es) (x ∷ xs) (y ∷ ys) a b = let first = same_reply anchors e x y a.0 b.0 in let more = same_replies anchors es xs ys a.1 b.1 in cc

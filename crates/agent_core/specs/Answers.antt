@@ -8,10 +8,17 @@ use Rattle.teep_messages.specs.declared.message.Message.TheVariants as kinds
 use Rattle.teep_messages.specs.declared.message.Message.{Message as TeepMessage}
 use Rattle.teep_messages.specs.declared.fault.MessageFault.{MessageFault}
 use Rattle.teep_messages.specs.Messages.{MessageIs, RefusedAs}
+use Rattle.cose_core.specs.declared.sign1.Sign1.{Sign1}
+use Rattle.cose_core.specs.declared.fault.CoseFault.{CoseFault}
+use Rattle.cose_core.specs.Sign1.{Sign1Is}
+use Rattle.cose_core.specs.Sign1 as Cose
+use Rattle.trust_anchors.specs.declared.anchors.Anchors.{Anchors}
+use Rattle.trust_anchors.specs.declared.role.Role.TheVariants as role
+use Rattle.trust_anchors.specs.Verified.{Verified}
 use Rattle.agent_core.specs.Frames.{Frame}
 use Rattle.agent_core.specs.Refusals.{number_of}
 use Rattle.agent_core.specs.declared.refusal.Refusal.{Refusal}
-use Rattle.agent_core.specs.declared.refusal.Refusal.TheVariants.{Kind, NotMessage, NotForAgent}
+use Rattle.agent_core.specs.declared.refusal.Refusal.TheVariants.{Kind, NotCose, NotSigned, NotMessage, NotForAgent}
 use Rattle.agent_core.specs.declared.event.Event.{Event}
 use Rattle.agent_core.specs.declared.event.Event.TheVariants.{Message, Payload, FetchFailed, Strange}
 
@@ -68,21 +75,58 @@ pub record RefusesBytes (bytes : List ℕ) (reply : Frame) : Type 0 where
   pub refused : RefusedAs bytes fault
   pub reply_is : reply ≡ refusal_frame NotMessage
 
--- an event that is no message is refused for its kind
-abbrev pub Answers : Event → Frame → Type 0
-Answers (Message bytes) reply = AnswersBytes bytes reply ⊎ RefusesBytes bytes reply
-Answers (Payload body) reply = reply ≡ refusal_frame Kind
-Answers FetchFailed reply = reply ≡ refusal_frame Kind
-Answers Strange reply = reply ≡ refusal_frame Kind
+-- the payload is a message, and the reply is its answer, or it is none and is refused
+abbrev pub AnswersPayload : List ℕ → Frame → Type 0
+AnswersPayload payload reply = AnswersBytes payload reply ⊎ RefusesBytes payload reply
+
+-- ---- signed messages
+
+-- one of the manager's keys signed this payload (RFC 9052, section 4.4)
+abbrev pub IsSigned : Anchors → Sign1 → List ℕ → Type 0
+IsSigned anchors envelope payload = (at : ℕ) × Verified anchors role.Manager envelope payload at
+
+-- the payload is signed, and is answered
+pub record AnswersSigned (anchors : Anchors) (envelope : Sign1) (payload : List ℕ) (reply : Frame) : Type 0 where
+  pub signed : IsSigned anchors envelope payload
+  pub answers : AnswersPayload payload reply
+
+-- a payload that is not signed is refused as such, whatever it is
+pub record RefusesUnsigned (anchors : Anchors) (envelope : Sign1) (payload : List ℕ) (reply : Frame) : Type 0 where
+  pub unsigned : IsSigned anchors envelope payload → ⊥
+  pub reply_is : reply ≡ refusal_frame NotSigned
+
+-- an envelope without a payload is refused as none
+abbrev pub AnswersContent : Anchors → Sign1 → Option (List ℕ) → Frame → Type 0
+AnswersContent anchors envelope (Some payload) reply = AnswersSigned anchors envelope payload reply ⊎ RefusesUnsigned anchors envelope payload reply
+AnswersContent anchors envelope None reply = reply ≡ refusal_frame NotCose
+
+-- the bytes are a COSE_Sign1 (RFC 9052, section 4.2), and the reply is its answer
+pub record AnswersEnvelope (anchors : Anchors) (bytes : List ℕ) (reply : Frame) : Type 0 where
+  pub envelope : Sign1
+  pub envelope_is : Sign1Is envelope bytes
+  pub answers : AnswersContent anchors envelope envelope.payload reply
+
+-- bytes that are none are refused as such
+pub record RefusesEnvelope (bytes : List ℕ) (reply : Frame) : Type 0 where
+  pub fault : CoseFault
+  pub refused : Cose.RefusedAs bytes fault
+  pub reply_is : reply ≡ refusal_frame NotCose
+
+-- An agent with these anchors gives this reply to an event. One that is no message is refused for its kind.
+abbrev pub Answers : Anchors → Event → Frame → Type 0
+Answers anchors (Message bytes) reply = AnswersEnvelope anchors bytes reply ⊎ RefusesEnvelope bytes reply
+Answers anchors (Payload body) reply = reply ≡ refusal_frame Kind
+Answers anchors FetchFailed reply = reply ≡ refusal_frame Kind
+Answers anchors Strange reply = reply ≡ refusal_frame Kind
 
 -- each event has its reply, in order
-abbrev pub Replies : List Event → List Frame → Type 0
-Replies [] [] = Unit {0}
-Replies [] (reply ∷ replies) = ⊥
-Replies (event ∷ events) [] = ⊥
-Replies (event ∷ events) (reply ∷ replies) = Answers event reply × Replies events replies
+abbrev pub Replies : Anchors → List Event → List Frame → Type 0
+Replies anchors [] [] = Unit {0}
+Replies anchors [] (reply ∷ replies) = ⊥
+Replies anchors (event ∷ events) [] = ⊥
+Replies anchors (event ∷ events) (reply ∷ replies) = Answers anchors event reply × Replies anchors events replies
 
 -- an event has one reply at most, and so have the events of a list
 pub record OneReply : Type 0 where
-  pub one : (event : Event) (reply other : Frame) → Answers event reply → Answers event other → reply ≡ other
-  pub each : (events : List Event) (replies others : List Frame) → Replies events replies → Replies events others → replies ≡ others
+  pub one : (anchors : Anchors) (event : Event) (reply other : Frame) → Answers anchors event reply → Answers anchors event other → reply ≡ other
+  pub each : (anchors : Anchors) (events : List Event) (replies others : List Frame) → Replies anchors events replies → Replies anchors events others → replies ≡ others

@@ -1,7 +1,6 @@
-ghost use Rattle.std.specs.Prelude.{◌≡◌, IfOk, OnErr};
-ghost use Rattle.agent_core.specs.Answers.{Answers, AnswersMessage, HasShortToken, OneReply, refusal_frame};
+ghost use Rattle.std.specs.Prelude.{◌≡◌, IfOk};
+ghost use Rattle.agent_core.specs.Answers.{Answers, AnswersContent, AnswersPayload, AnswersMessage, HasShortToken, OneReply, refusal_frame};
 ghost use Rattle.agent_core.specs.Replies.{frame_of};
-ghost use Rattle.teep_messages.specs.Messages.{MessageIs};
 
 use crate::event::Event;
 use crate::fault::AgentFault;
@@ -9,39 +8,92 @@ use crate::refusal::Refusal;
 use crate::reply::Reply;
 use crate::response::respond;
 use base_types::{Octets, OrMemory};
+use component_store::Config;
+use cose_core::{CoseFault, Sign1};
 use std::alloc::Global;
+use std::marker::Model;
 use teep_messages::{Message, MessageFault};
+use trust_anchors::{Anchors, Role, SignFault};
 
 // The kind of a frame out that carries a refusal.
 const REFUSAL: u8 = 0x82;
 
-/// The agent of a device. It answers each event by one reply.
-#[derive(Debug, Drop)]
-pub struct Agent;
+/// The agent of a device. It answers each event by one reply, and listens to its manager alone.
+///
+/// Contracts see it as the device's configuration.
+#[derive(Drop)]
+pub struct Agent {
+    config: Config,
+}
+
+impl Model for Agent {
+    ghost use Rattle.component_store.specs.declared.config.Config.{Config};
+
+    ghost Value = { Config };
+
+    ghost view = { λ it. it.config };
+}
 
 impl Agent {
-    /// An agent that has met no event yet.
-    pub fn new() -> Agent {
-        Agent
+    /// The agent of a device that was given this configuration.
+    pub fn new(config: Config) -> Agent
+        ensures { result ≡ config }
+    {
+        Agent { config }
     }
 
     /// The reply to an event.
     ///
-    /// A question gets the QueryResponse with its token, in a frame of kind 0x81. Bytes that are no
-    /// message, and a question without a token, are refused by 4, a message of another kind by 5, and
-    /// every other event by 1, in a frame of kind 0x82. After `NoMemory` the agent is as before.
+    /// A message is a COSE_Sign1 (RFC 9052, section 4.2) that one of the manager's keys signed. A
+    /// question gets the QueryResponse with its token, in a frame of kind 0x81. All else is refused, in a
+    /// frame of kind 0x82, for the first reason that holds: 1 for an event that is no message, 2 for
+    /// bytes that are no COSE_Sign1 or have no payload, 3 for a payload that none of the manager's keys
+    /// signed, 4 for a payload that is no message and a question without a token, 5 for a message of
+    /// another kind. After `NoMemory` the agent is as before.
     pub fn deliver(&mut self, alloc: Global, event: &Event) -> Result<Reply, AgentFault>
-        ensures answers { IfOk result (λ reply. Answers event.now (frame_of reply)) }
-        ensures unchanged { OnErr result (self.new ≡ self.old) }
+        ensures answers { IfOk result (λ reply. Answers self.old.anchors event.now (frame_of reply)) }
+        ensures unchanged { self.new ≡ self.old }
     {
         let Event::Message(bytes) = event else {
             return Ok(refuse(alloc, Refusal::Kind)?);
         };
-        match Message::read(alloc, bytes.as_slice()) {
-            Ok(message) => Ok(answer(alloc, &message)?),
-            Err(MessageFault::NoMemory) => Err(AgentFault::NoMemory),
-            Err(_) => Ok(refuse(alloc, Refusal::NotMessage)?),
-        }
+        answer_bytes(alloc, &self.config.anchors, bytes.as_slice())
+    }
+}
+
+// The reply to the bytes of a message.
+fn answer_bytes(alloc: Global, anchors: &Anchors, bytes: &[u8]) -> Result<Reply, AgentFault>
+    ensures { IfOk result (λ reply. Answers anchors.now (Event.Message bytes.now) (frame_of reply)) }
+{
+    match Sign1::read(alloc, bytes) {
+        Ok(envelope) => answer_envelope(alloc, anchors, &envelope),
+        Err(CoseFault::NoMemory) => Err(AgentFault::NoMemory),
+        Err(_) => Ok(refuse(alloc, Refusal::NotCose)?),
+    }
+}
+
+// The reply to a COSE_Sign1.
+fn answer_envelope(alloc: Global, anchors: &Anchors, envelope: &Sign1) -> Result<Reply, AgentFault>
+    ensures { IfOk result (λ reply. AnswersContent anchors.now envelope.now envelope.now.payload (frame_of reply)) }
+{
+    let Some(payload) = &envelope.payload else {
+        return Ok(refuse(alloc, Refusal::NotCose)?);
+    };
+    match anchors.verified(alloc, Role::Manager, envelope, payload.as_slice()) {
+        Ok(_) => answer_payload(alloc, payload.as_slice()),
+        Err(SignFault::NotSigned) => Ok(refuse(alloc, Refusal::NotSigned)?),
+        Err(SignFault::NoMemory) => Err(AgentFault::NoMemory),
+    }
+}
+
+// The reply to the payload of a signed message.
+fn answer_payload(alloc: Global, payload: &[u8]) -> Result<Reply, AgentFault>
+    ensures { IfOk result (λ reply. AnswersPayload payload.now (frame_of reply)) }
+{
+    match Message::read(alloc, payload) {
+        Ok(message) => Ok(answer(alloc, &message)?),
+        Err(MessageFault::NoMemory) => Err(AgentFault::NoMemory),
+        Err(_) => Ok(refuse(alloc, Refusal::NotMessage)?),
     }
 }
 

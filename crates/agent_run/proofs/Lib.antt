@@ -3,3 +3,4 @@ pub mod Looks
 pub mod OneReading
 pub mod Looping
 pub mod Exactly
+pub mod Mounting

@@ -5,6 +5,8 @@ use Rattle.std.proofs.lemmas.List.Elements.{All-push, All-nil}
 use Rattle.std.proofs.Math.Seq.{take-append-add}
 use Rattle.std.specs.List.{All, flat_map}
 use Rattle.board_core.specs.Contents.{Contents}
+use Rattle.trust_anchors.specs.declared.anchors.Anchors.{Anchors}
+use Rattle.component_store.specs.declared.config.Config.{Config}
 use Rattle.agent_core.specs.Frames.{Frame, frame_bytes, four_bytes}
 use Rattle.agent_core.specs.Events.{event_in}
 use Rattle.agent_core.specs.Answers.{Answers, Replies}
@@ -24,235 +26,242 @@ use Rattle.agent_run.specs.declared.turn.Turn.TheVariants as turns
 use Rattle.agent_run.proofs.Pieces.{image_stays, image_both}
 use Rattle.agent_run.proofs.Looks.{length-four_bytes}
 
--- between two frames: each frame that was taken is answered
-pub record Looping (limit count : ℕ) (old now : Contents) : Type 0 where
-  pub frames : List Frame
-  pub each : All (IsFrame limit) frames
-  pub front : old.rest ≡ flat_map frame_bytes frames ++ now.rest
-  pub counted : count ≡ length (flat_map frame_bytes frames)
-  pub taken : now.taken ≡ old.taken + count
-  pub image : SameImage old now
-  pub answered : Answered frames old.sent now.sent
+module _ (anchors : Anchors) where
+  -- between two frames: each frame that was taken is answered
+  pub record Looping (limit count : ℕ) (old now : Contents) : Type 0 where
+    pub frames : List Frame
+    pub each : All (IsFrame limit) frames
+    pub front : old.rest ≡ flat_map frame_bytes frames ++ now.rest
+    pub counted : count ≡ length (flat_map frame_bytes frames)
+    pub taken : now.taken ≡ old.taken + count
+    pub image : SameImage old now
+    pub answered : Answered anchors frames old.sent now.sent
 
-pub starts : (limit : ℕ) (now : Contents) → Looping limit 0 now now
-starts limit now = record {
-  frames = [];
-  each = All-nil (IsFrame limit);
-  front = refl;
-  counted = refl;
-  taken = omega arith;
-  image = image_stays now;
-  answered = record { replies = []; each = tt; sent_is = sym (append-nil now.sent) };
-}
-
--- nothing more is sent
-moved : {frames : List Frame} {before sent now : List ℕ} → Answered frames before sent → now ≡ sent → Answered frames before now
-moved answered same = record { replies = answered.replies; each = answered.each; sent_is = same ∙ answered.sent_is }
-
-replies_push : (events : List Event) (replies : List Frame) (event : Event) (reply : Frame) → Replies events replies → Answers event reply → Replies (events ++ event ∷ []) (replies ++ reply ∷ [])
-replies_push [] [] event reply each last = (last, tt)
-replies_push [] (r ∷ rs) event reply each last = absurd each
-replies_push (e ∷ es) [] event reply each last = absurd each
-replies_push (e ∷ es) (r ∷ rs) event reply each last = (each.0, replies_push es rs event reply each.1 last)
-
--- one reply more is sent
-answered_push : {frames : List Frame} {before sent now : List ℕ} (frame reply : Frame) → Answered frames before sent → Answers (event_in frame) reply → now ≡ sent ++ frame_bytes reply → Answered (frames ++ frame ∷ []) before now
-answered_push {frames} {before} frame reply answered answers is = record {
-  replies = answered.replies ++ reply ∷ [];
-  each = subst (λ (l : List Event). Replies l (answered.replies ++ reply ∷ [])) (sym (map-append event_in frames (frame ∷ []))) (replies_push (map event_in frames) answered.replies (event_in frame) reply answered.each answers);
-  sent_is = is ∙ ap (λ (l : List ℕ). l ++ frame_bytes reply) answered.sent_is ∙ flat_map_more frame_bytes before answered.replies reply;
-}
-
-past : (xs ys : List ℕ) (m n : ℕ) → m ≡ length xs + n → take m (xs ++ ys) ≡ xs ++ take n ys
-past xs ys m n is = ap (λ (k : ℕ). take k (xs ++ ys)) is ∙ take-append-add xs ys n
-
--- one look for a frame, from between two frames on
-module _ (limit most count : ℕ) (old mid new : Contents) (run : Looping limit count old mid) (count2 : ℕ) (took : TookSome count count2 mid new) where
-  abbrev taken_frames : List ℕ
-  taken_frames = flat_map frame_bytes run.frames
-
-  abbrev all_taken : List ℕ
-  all_taken = taken_frames ++ took.bytes
-
-  all_front : old.rest ≡ all_taken ++ new.rest
-  all_front = run.front ∙ ap (λ (l : List ℕ). taken_frames ++ l) took.took.front ∙ sym (append_assoc taken_frames took.bytes new.rest)
-
-  -- what came is the front of what was there
-  same_bytes : (bytes : List ℕ) → mid.rest ≡ bytes ++ new.rest → took.bytes ≡ bytes
-  same_bytes bytes front = append_cancel_right took.bytes bytes new.rest (sym took.took.front ∙ front)
-
-  still_answered : Answered run.frames old.sent new.sent
-  still_answered = moved run.answered took.took.sent
-
-  pub ran : (status : Status) → Outcome limit most status old.rest all_taken old.sent new.sent → Ran limit most status old new
-  ran status is = record {
-    took = all_taken;
-    front = all_front;
-    taken = omega (arith, took.took.taken, run.taken, run.counted, took.counted, length-append taken_frames took.bytes);
-    image = image_both run.image took.took.image;
-    outcome = is;
+  pub starts : (limit : ℕ) (now : Contents) → Looping limit 0 now now
+  starts limit now = record {
+    frames = [];
+    each = All-nil (IsFrame limit);
+    front = refl;
+    counted = refl;
+    taken = omega arith;
+    image = image_stays now;
+    answered = record { replies = []; each = tt; sent_is = sym (append-nil now.sent) };
   }
 
-  -- all of the input was taken
-  all_of_it : new.rest ≡ [] → old.rest ≡ all_taken
-  all_of_it ended = all_front ∙ ap (λ (l : List ℕ). all_taken ++ l) ended ∙ append-nil all_taken
+  -- nothing more is sent
+  moved : {frames : List Frame} {before sent now : List ℕ} → Answered anchors frames before sent → now ≡ sent → Answered anchors frames before now
+  moved answered same = record { replies = answered.replies; each = answered.each; sent_is = same ∙ answered.sent_is }
 
-  -- it ended in time
-  in_time : new.rest ≡ [] → count2 < most → length old.rest < most
-  in_time ended below = omega (arith, ap length (all_of_it ended), length-append taken_frames took.bytes, run.counted, took.counted)
+  replies_push : (events : List Event) (replies : List Frame) (event : Event) (reply : Frame) → Replies anchors events replies → Answers anchors event reply → Replies anchors (events ++ event ∷ []) (replies ++ reply ∷ [])
+  replies_push [] [] event reply each last = (last, tt)
+  replies_push [] (r ∷ rs) event reply each last = absurd each
+  replies_push (e ∷ es) [] event reply each last = absurd each
+  replies_push (e ∷ es) (r ∷ rs) event reply each last = (each.0, replies_push es rs event reply each.1 last)
 
-  short : length old.rest < most → take most old.rest ≡ old.rest
-  short below = take_all most old.rest (omega arith)
-
-  pub whole : mid.rest ≡ [] → new.rest ≡ [] → count2 < most → AllAnswered limit most whole_end old.rest all_taken old.sent new.sent
-  whole none ended below =
-      let in_time_ = in_time ended below in
-      record {
-        frames = run.frames;
-        events = record {
-          rest = [];
-          splits = record { whole = short in_time_ ∙ run.front ∙ ap (λ (l : List ℕ). taken_frames ++ l) none; each = run.each };
-          ends = (refl, in_time_);
-        };
-        taken = sym (all_of_it ended);
-        answered = still_answered;
-      }
-
-  pub cut : IsCut limit mid.rest → new.rest ≡ [] → count2 < most → AllAnswered limit most cut_end old.rest all_taken old.sent new.sent
-  cut is ended below =
-      let in_time_ = in_time ended below in
-      record {
-        frames = run.frames;
-        events = record { rest = mid.rest; splits = record { whole = short in_time_ ∙ run.front; each = run.each }; ends = (is, in_time_) };
-        taken = sym (all_of_it ended);
-        answered = still_answered;
-      }
-
-  -- a head says too much
-  pub long : LongCame limit mid.rest new.rest → count + 5 ≤ count2 → count2 ≤ most → AllAnswered limit most long_end old.rest all_taken old.sent new.sent
-  long came grows within =
-      let head = came.head in
-      let room = most - count in
-      let front = ap (λ (l : List ℕ). take most l) run.front ∙ past taken_frames mid.rest most room (omega (arith, run.counted)) in
-      let five = length-four_bytes head.size in
-      let head_front = ap (λ (l : List ℕ). take room l) head.spelled ∙ past (head.kind ∷ four_bytes head.size) head.behind room (room - 5) (omega (arith, five)) in
-      let bytes = same_bytes (head.kind ∷ four_bytes head.size) (head.spelled ∙ ap (λ (l : List ℕ). (head.kind ∷ four_bytes head.size) ++ l) (sym came.stays)) in
-      record {
-        frames = run.frames;
-        events = record {
-          rest = take room mid.rest;
-          splits = record { whole = front; each = run.each };
-          ends = (record { kind = head.kind; size = head.size; behind = take (room - 5) head.behind; spelled = head_front; size_fits = head.size_fits }, came.above);
-        };
-        taken = (took.bytes, omega (arith, ap length bytes, five), refl);
-        answered = still_answered;
-      }
-
-  part_is : (part : PartCame limit mid.rest new.rest) → IsPart limit took.bytes
-  part_is part = subst (λ (l : List ℕ). IsPart limit l) (sym (same_bytes part.bytes part.front)) part.part
-
-  -- no more may be taken
-  pub spent : PartCame limit mid.rest new.rest → most ≤ count2 → count2 ≤ most → AllAnswered limit most spent_end old.rest all_taken old.sent new.sent
-  spent part reached within =
-      let size : length all_taken ≡ most = omega (arith, length-append taken_frames took.bytes, run.counted, took.counted) in
-      let all = ap (λ (l : List ℕ). take most l) all_front ∙ take_at all_taken new.rest most size in
-      record {
-        frames = run.frames;
-        events = record {
-          rest = took.bytes;
-          splits = record { whole = all; each = run.each };
-          ends = (part_is part, omega (arith, ap length all_front, length-append all_taken new.rest, size));
-        };
-        taken = sym all;
-        answered = still_answered;
-      }
-
-  -- a part of a frame was taken, or nothing
-  pub part_taken : PartCame limit mid.rest new.rest → TakenAnswered limit all_taken old.sent new.sent
-  part_taken part = record {
-    frames = run.frames;
-    rest = took.bytes;
-    splits = record { whole = refl; each = run.each };
-    part = part_is part;
-    answered = still_answered;
+  -- one reply more is sent
+  answered_push : {frames : List Frame} {before sent now : List ℕ} (frame reply : Frame) → Answered anchors frames before sent → Answers anchors (event_in frame) reply → now ≡ sent ++ frame_bytes reply → Answered anchors (frames ++ frame ∷ []) before now
+  answered_push {frames} {before} frame reply answered answers is = record {
+    replies = answered.replies ++ reply ∷ [];
+    each = subst (λ (l : List Event). Replies anchors l (answered.replies ++ reply ∷ [])) (sym (map-append event_in frames (frame ∷ []))) (replies_push (map event_in frames) answered.replies (event_in frame) reply answered.each answers);
+    sent_is = is ∙ ap (λ (l : List ℕ). l ++ frame_bytes reply) answered.sent_is ∙ flat_map_more frame_bytes before answered.replies reply;
   }
 
-  -- a frame came whole, and its event led to what stands in the last contents
-  module _ (frame : Frame) (came : Came limit frame mid.rest new.rest) (last : Contents) (only : OnlySent new last) where
-    more_frames : all_taken ≡ flat_map frame_bytes (run.frames ++ frame ∷ [])
-    more_frames = ap (λ (l : List ℕ). taken_frames ++ l) (same_bytes (frame_bytes frame) came.front) ∙ flat_map_more frame_bytes [] run.frames frame
+  past : (xs ys : List ℕ) (m n : ℕ) → m ≡ length xs + n → take m (xs ++ ys) ≡ xs ++ take n ys
+  past xs ys m n is = ap (λ (k : ℕ). take k (xs ++ ys)) is ∙ take-append-add xs ys n
 
-    more_each : All (IsFrame limit) (run.frames ++ frame ∷ [])
-    more_each = All-push (IsFrame limit) run.frames frame run.each came.within
+  -- one look for a frame, from between two frames on
+  module _ (limit most count : ℕ) (old mid new : Contents) (run : Looping limit count old mid) (count2 : ℕ) (took : TookSome count count2 mid new) where
+    abbrev taken_frames : List ℕ
+    taken_frames = flat_map frame_bytes run.frames
 
-    last_front : old.rest ≡ all_taken ++ last.rest
-    last_front = all_front ∙ ap (λ (l : List ℕ). all_taken ++ l) (sym only.rest)
+    abbrev all_taken : List ℕ
+    all_taken = taken_frames ++ took.bytes
 
-    last_splits : Splits limit all_taken (run.frames ++ frame ∷ []) []
-    last_splits = record { whole = more_frames ∙ sym (append-nil (flat_map frame_bytes (run.frames ++ frame ∷ []))); each = more_each }
+    all_front : old.rest ≡ all_taken ++ new.rest
+    all_front = run.front ∙ ap (λ (l : List ℕ). taken_frames ++ l) took.took.front ∙ sym (append_assoc taken_frames took.bytes new.rest)
 
-    last_ran : (status : Status) → Outcome limit most status old.rest all_taken old.sent last.sent → Ran limit most status old last
-    last_ran status is = record {
+    -- what came is the front of what was there
+    same_bytes : (bytes : List ℕ) → mid.rest ≡ bytes ++ new.rest → took.bytes ≡ bytes
+    same_bytes bytes front = append_cancel_right took.bytes bytes new.rest (sym took.took.front ∙ front)
+
+    still_answered : Answered anchors run.frames old.sent new.sent
+    still_answered = moved run.answered took.took.sent
+
+    pub ran : (status : Status) → Outcome anchors limit most status old.rest all_taken old.sent new.sent → Ran anchors limit most status old new
+    ran status is = record {
       took = all_taken;
-      front = last_front;
-      taken = omega (arith, only.taken, took.took.taken, run.taken, run.counted, took.counted, length-append taken_frames took.bytes);
-      image = image_both (image_both run.image took.took.image) only.image;
+      front = all_front;
+      taken = omega (arith, took.took.taken, run.taken, run.counted, took.counted, length-append taken_frames took.bytes);
+      image = image_both run.image took.took.image;
       outcome = is;
     }
 
-    pub goes_on : Turns (event_in frame) new.sent last.sent turns.Sent → Looping limit count2 old last
-    goes_on turn = record {
-      frames = run.frames ++ frame ∷ [];
-      each = more_each;
-      front = last_front ∙ ap (λ (l : List ℕ). l ++ last.rest) more_frames;
-      counted = omega (arith, run.counted, took.counted, length-append taken_frames took.bytes, ap length more_frames);
-      taken = omega (arith, only.taken, took.took.taken, run.taken, took.counted);
-      image = image_both (image_both run.image took.took.image) only.image;
-      answered = answered_push frame turn.0 still_answered turn.1 turn.2;
+    -- all of the input was taken
+    all_of_it : new.rest ≡ [] → old.rest ≡ all_taken
+    all_of_it ended = all_front ∙ ap (λ (l : List ℕ). all_taken ++ l) ended ∙ append-nil all_taken
+
+    -- it ended in time
+    in_time : new.rest ≡ [] → count2 < most → length old.rest < most
+    in_time ended below = omega (arith, ap length (all_of_it ended), length-append taken_frames took.bytes, run.counted, took.counted)
+
+    short : length old.rest < most → take most old.rest ≡ old.rest
+    short below = take_all most old.rest (omega arith)
+
+    pub whole : mid.rest ≡ [] → new.rest ≡ [] → count2 < most → AllAnswered anchors limit most whole_end old.rest all_taken old.sent new.sent
+    whole none ended below =
+        let in_time_ = in_time ended below in
+        record {
+          frames = run.frames;
+          events = record {
+            rest = [];
+            splits = record { whole = short in_time_ ∙ run.front ∙ ap (λ (l : List ℕ). taken_frames ++ l) none; each = run.each };
+            ends = (refl, in_time_);
+          };
+          taken = sym (all_of_it ended);
+          answered = still_answered;
+        }
+
+    pub cut : IsCut limit mid.rest → new.rest ≡ [] → count2 < most → AllAnswered anchors limit most cut_end old.rest all_taken old.sent new.sent
+    cut is ended below =
+        let in_time_ = in_time ended below in
+        record {
+          frames = run.frames;
+          events = record { rest = mid.rest; splits = record { whole = short in_time_ ∙ run.front; each = run.each }; ends = (is, in_time_) };
+          taken = sym (all_of_it ended);
+          answered = still_answered;
+        }
+
+    -- a head says too much
+    pub long : LongCame limit mid.rest new.rest → count + 5 ≤ count2 → count2 ≤ most → AllAnswered anchors limit most long_end old.rest all_taken old.sent new.sent
+    long came grows within =
+        let head = came.head in
+        let room = most - count in
+        let front = ap (λ (l : List ℕ). take most l) run.front ∙ past taken_frames mid.rest most room (omega (arith, run.counted)) in
+        let five = length-four_bytes head.size in
+        let head_front = ap (λ (l : List ℕ). take room l) head.spelled ∙ past (head.kind ∷ four_bytes head.size) head.behind room (room - 5) (omega (arith, five)) in
+        let bytes = same_bytes (head.kind ∷ four_bytes head.size) (head.spelled ∙ ap (λ (l : List ℕ). (head.kind ∷ four_bytes head.size) ++ l) (sym came.stays)) in
+        record {
+          frames = run.frames;
+          events = record {
+            rest = take room mid.rest;
+            splits = record { whole = front; each = run.each };
+            ends = (record { kind = head.kind; size = head.size; behind = take (room - 5) head.behind; spelled = head_front; size_fits = head.size_fits }, came.above);
+          };
+          taken = (took.bytes, omega (arith, ap length bytes, five), refl);
+          answered = still_answered;
+        }
+
+    part_is : (part : PartCame limit mid.rest new.rest) → IsPart limit took.bytes
+    part_is part = subst (λ (l : List ℕ). IsPart limit l) (sym (same_bytes part.bytes part.front)) part.part
+
+    -- no more may be taken
+    pub spent : PartCame limit mid.rest new.rest → most ≤ count2 → count2 ≤ most → AllAnswered anchors limit most spent_end old.rest all_taken old.sent new.sent
+    spent part reached within =
+        let size : length all_taken ≡ most = omega (arith, length-append taken_frames took.bytes, run.counted, took.counted) in
+        let all = ap (λ (l : List ℕ). take most l) all_front ∙ take_at all_taken new.rest most size in
+        record {
+          frames = run.frames;
+          events = record {
+            rest = took.bytes;
+            splits = record { whole = all; each = run.each };
+            ends = (part_is part, omega (arith, ap length all_front, length-append all_taken new.rest, size));
+          };
+          taken = sym all;
+          answered = still_answered;
+        }
+
+    -- a part of a frame was taken, or nothing
+    pub part_taken : PartCame limit mid.rest new.rest → TakenAnswered anchors limit all_taken old.sent new.sent
+    part_taken part = record {
+      frames = run.frames;
+      rest = took.bytes;
+      splits = record { whole = refl; each = run.each };
+      part = part_is part;
+      answered = still_answered;
     }
 
-    pub send_fault : Turns (event_in frame) new.sent last.sent turns.SendFault → Ran limit most statuses.SendFault old last
-    send_fault turn = last_ran statuses.SendFault (record {
-      frames = run.frames;
-      last = frame;
-      splits = last_splits;
-      sent_before = new.sent;
-      answered = still_answered;
-      reply = turn.0;
-      replies = turn.1;
-      front = turn.2;
-    })
+    -- a frame came whole, and its event led to what stands in the last contents
+    module _ (frame : Frame) (came : Came limit frame mid.rest new.rest) (last : Contents) (only : OnlySent new last) where
+      more_frames : all_taken ≡ flat_map frame_bytes (run.frames ++ frame ∷ [])
+      more_frames = ap (λ (l : List ℕ). taken_frames ++ l) (same_bytes (frame_bytes frame) came.front) ∙ flat_map_more frame_bytes [] run.frames frame
 
-    pub no_memory : Turns (event_in frame) new.sent last.sent turns.NoMemory → Ran limit most statuses.NoMemory old last
-    no_memory turn = last_ran statuses.NoMemory (inr (record { frames = run.frames; last = frame; splits = last_splits; answered = moved still_answered turn }))
+      more_each : All (IsFrame limit) (run.frames ++ frame ∷ [])
+      more_each = All-push (IsFrame limit) run.frames frame run.each came.within
 
--- what a run leaves that ends without another frame
-abbrev pub Leaves : ℕ → ℕ → Contents → Contents → Next → Type 0
-Leaves limit most old new (Got kind body) = Unit {0}
-Leaves limit most old new Whole = Ran limit most statuses.Done old new
-Leaves limit most old new Long = Ran limit most statuses.LongFrame old new
-Leaves limit most old new Cut = Ran limit most statuses.CutFrame old new
-Leaves limit most old new Spent = Ran limit most statuses.InputSpent old new
-Leaves limit most old new ReadFault = Ran limit most statuses.ReadFault old new
-Leaves limit most old new NoMemory = Ran limit most statuses.NoMemory old new
+      last_front : old.rest ≡ all_taken ++ last.rest
+      last_front = all_front ∙ ap (λ (l : List ℕ). all_taken ++ l) (sym only.rest)
 
-pub left : {limit most count count2 : ℕ} {old mid new : Contents} → Looping limit count old mid → TookSome count count2 mid new → (next : Next) → Grows count count2 next → count2 ≤ most → Nexts limit most count2 mid.rest new.rest next → Leaves limit most old new next
-left {limit} {most} {count} {count2} {old} {mid} {new} run took (Got kind body) grows within is = tt
-left {limit} {most} {count} {count2} {old} {mid} {new} run took Whole grows within is = ran limit most count old mid new run count2 took statuses.Done (whole limit most count old mid new run count2 took is.0 is.1 is.2)
-left {limit} {most} {count} {count2} {old} {mid} {new} run took Long grows within is = ran limit most count old mid new run count2 took statuses.LongFrame (long limit most count old mid new run count2 took is grows within)
-left {limit} {most} {count} {count2} {old} {mid} {new} run took Cut grows within is = ran limit most count old mid new run count2 took statuses.CutFrame (cut limit most count old mid new run count2 took is.0 is.1 is.2)
-left {limit} {most} {count} {count2} {old} {mid} {new} run took Spent grows within is = ran limit most count old mid new run count2 took statuses.InputSpent (spent limit most count old mid new run count2 took is.0 is.1 within)
-left {limit} {most} {count} {count2} {old} {mid} {new} run took ReadFault grows within is = ran limit most count old mid new run count2 took statuses.ReadFault (part_taken limit most count old mid new run count2 took is)
-left {limit} {most} {count} {count2} {old} {mid} {new} run took NoMemory grows within is = ran limit most count old mid new run count2 took statuses.NoMemory (inl (part_taken limit most count old mid new run count2 took is))
+      last_splits : Splits limit all_taken (run.frames ++ frame ∷ []) []
+      last_splits = record { whole = more_frames ∙ sym (append-nil (flat_map frame_bytes (run.frames ++ frame ∷ []))); each = more_each }
 
--- what a run leaves whose frame got this turn: it goes on, or it ends
-abbrev pub After : ℕ → ℕ → ℕ → Contents → Contents → Turn → Type 0
-After limit most count old last turns.Sent = Looping limit count old last
-After limit most count old last turns.SendFault = Ran limit most statuses.SendFault old last
-After limit most count old last turns.NoMemory = Ran limit most statuses.NoMemory old last
+      last_ran : (status : Status) → Outcome anchors limit most status old.rest all_taken old.sent last.sent → Ran anchors limit most status old last
+      last_ran status is = record {
+        took = all_taken;
+        front = last_front;
+        taken = omega (arith, only.taken, took.took.taken, run.taken, run.counted, took.counted, length-append taken_frames took.bytes);
+        image = image_both (image_both run.image took.took.image) only.image;
+        outcome = is;
+      }
 
-pub after : (most : ℕ) {limit count count2 : ℕ} {old mid new last : Contents} {frame : Frame} → Looping limit count old mid → TookSome count count2 mid new → Came limit frame mid.rest new.rest → OnlySent new last
-    → (turn : Turn) → Turns (event_in frame) new.sent last.sent turn → After limit most count2 old last turn
-after most {limit} {count} {count2} {old} {mid} {new} {last} {frame} run took came only turns.Sent is = goes_on limit most count old mid new run count2 took frame came last only is
-after most {limit} {count} {count2} {old} {mid} {new} {last} {frame} run took came only turns.SendFault is = send_fault limit most count old mid new run count2 took frame came last only is
-after most {limit} {count} {count2} {old} {mid} {new} {last} {frame} run took came only turns.NoMemory is = no_memory limit most count old mid new run count2 took frame came last only is
+      pub goes_on : Turns anchors (event_in frame) new.sent last.sent turns.Sent → Looping limit count2 old last
+      goes_on turn = record {
+        frames = run.frames ++ frame ∷ [];
+        each = more_each;
+        front = last_front ∙ ap (λ (l : List ℕ). l ++ last.rest) more_frames;
+        counted = omega (arith, run.counted, took.counted, length-append taken_frames took.bytes, ap length more_frames);
+        taken = omega (arith, only.taken, took.took.taken, run.taken, took.counted);
+        image = image_both (image_both run.image took.took.image) only.image;
+        answered = answered_push frame turn.0 still_answered turn.1 turn.2;
+      }
+
+      pub send_fault : Turns anchors (event_in frame) new.sent last.sent turns.SendFault → Ran anchors limit most statuses.SendFault old last
+      send_fault turn = last_ran statuses.SendFault (record {
+        frames = run.frames;
+        last = frame;
+        splits = last_splits;
+        sent_before = new.sent;
+        answered = still_answered;
+        reply = turn.0;
+        replies = turn.1;
+        front = turn.2;
+      })
+
+      pub no_memory : Turns anchors (event_in frame) new.sent last.sent turns.NoMemory → Ran anchors limit most statuses.NoMemory old last
+      no_memory turn = last_ran statuses.NoMemory (inr (record { frames = run.frames; last = frame; splits = last_splits; answered = moved still_answered turn }))
+
+  -- what a run leaves that ends without another frame
+  abbrev pub Leaves : ℕ → ℕ → Contents → Contents → Next → Type 0
+  Leaves limit most old new (Got kind body) = Unit {0}
+  Leaves limit most old new Whole = Ran anchors limit most statuses.Done old new
+  Leaves limit most old new Long = Ran anchors limit most statuses.LongFrame old new
+  Leaves limit most old new Cut = Ran anchors limit most statuses.CutFrame old new
+  Leaves limit most old new Spent = Ran anchors limit most statuses.InputSpent old new
+  Leaves limit most old new ReadFault = Ran anchors limit most statuses.ReadFault old new
+  Leaves limit most old new NoMemory = Ran anchors limit most statuses.NoMemory old new
+
+  pub left : {limit most count count2 : ℕ} {old mid new : Contents} → Looping limit count old mid → TookSome count count2 mid new → (next : Next) → Grows count count2 next → count2 ≤ most → Nexts limit most count2 mid.rest new.rest next → Leaves limit most old new next
+  left {limit} {most} {count} {count2} {old} {mid} {new} run took (Got kind body) grows within is = tt
+  left {limit} {most} {count} {count2} {old} {mid} {new} run took Whole grows within is = ran limit most count old mid new run count2 took statuses.Done (whole limit most count old mid new run count2 took is.0 is.1 is.2)
+  left {limit} {most} {count} {count2} {old} {mid} {new} run took Long grows within is = ran limit most count old mid new run count2 took statuses.LongFrame (long limit most count old mid new run count2 took is grows within)
+  left {limit} {most} {count} {count2} {old} {mid} {new} run took Cut grows within is = ran limit most count old mid new run count2 took statuses.CutFrame (cut limit most count old mid new run count2 took is.0 is.1 is.2)
+  left {limit} {most} {count} {count2} {old} {mid} {new} run took Spent grows within is = ran limit most count old mid new run count2 took statuses.InputSpent (spent limit most count old mid new run count2 took is.0 is.1 within)
+  left {limit} {most} {count} {count2} {old} {mid} {new} run took ReadFault grows within is = ran limit most count old mid new run count2 took statuses.ReadFault (part_taken limit most count old mid new run count2 took is)
+  left {limit} {most} {count} {count2} {old} {mid} {new} run took NoMemory grows within is = ran limit most count old mid new run count2 took statuses.NoMemory (inl (part_taken limit most count old mid new run count2 took is))
+
+  -- what a run leaves whose frame got this turn: it goes on, or it ends
+  abbrev pub After : ℕ → ℕ → ℕ → Contents → Contents → Turn → Type 0
+  After limit most count old last turns.Sent = Looping limit count old last
+  After limit most count old last turns.SendFault = Ran anchors limit most statuses.SendFault old last
+  After limit most count old last turns.NoMemory = Ran anchors limit most statuses.NoMemory old last
+
+  pub after : (most : ℕ) {limit count count2 : ℕ} {old mid new last : Contents} {frame : Frame} → Looping limit count old mid → TookSome count count2 mid new → Came limit frame mid.rest new.rest → OnlySent new last
+      → (turn : Turn) → Turns anchors (event_in frame) new.sent last.sent turn → After limit most count2 old last turn
+  after most {limit} {count} {count2} {old} {mid} {new} {last} {frame} run took came only turns.Sent is = goes_on limit most count old mid new run count2 took frame came last only is
+  after most {limit} {count} {count2} {old} {mid} {new} {last} {frame} run took came only turns.SendFault is = send_fault limit most count old mid new run count2 took frame came last only is
+  after most {limit} {count} {count2} {old} {mid} {new} {last} {frame} run took came only turns.NoMemory is = no_memory limit most count old mid new run count2 took frame came last only is
+
+-- the same of an agent that is as at the start
+pub after_by : (most : ℕ) (agent now : Config) → now ≡ agent → {limit count count2 : ℕ} {old mid new last : Contents} {frame : Frame} → Looping agent.anchors limit count old mid → TookSome count count2 mid new
+    → Came limit frame mid.rest new.rest → OnlySent new last → (turn : Turn) → Turns now.anchors (event_in frame) new.sent last.sent turn → After agent.anchors limit most count2 old last turn
+after_by most agent now same {limit} {count} {count2} {old} {mid} {new} {last} {frame} run took came only turn is =
+    after agent.anchors most run took came only turn (subst (λ (c : Config). Turns c.anchors (event_in frame) new.sent last.sent turn) same is)

@@ -2,6 +2,7 @@
 use Rattle.std.specs.Prelude.{◌≡◌, ◌++◌, List, ℕ}
 use Rattle.board_core.specs.Contents.{Contents}
 use Rattle.board_core.specs.Moments.{SendsSome}
+use Rattle.trust_anchors.specs.declared.anchors.Anchors.{Anchors}
 use Rattle.agent_core.specs.Frames.{Frame, frame_bytes}
 use Rattle.agent_core.specs.Answers.{Answers}
 use Rattle.agent_core.specs.declared.event.Event.{Event}
@@ -10,10 +11,10 @@ use Rattle.agent_run.specs.declared.turn.Turn.{Turn}
 use Rattle.agent_run.specs.declared.turn.Turn.TheVariants.{Sent, SendFault, NoMemory}
 
 -- the reply went out, or some front of it, or nothing
-abbrev pub Turns : Event → List ℕ → List ℕ → Turn → Type 0
-Turns event before sent Sent = (reply : Frame) × Answers event reply × (sent ≡ before ++ frame_bytes reply)
-Turns event before sent SendFault = (reply : Frame) × Answers event reply × SendsSome (frame_bytes reply) before sent
-Turns event before sent NoMemory = sent ≡ before
+abbrev pub Turns : Anchors → Event → List ℕ → List ℕ → Turn → Type 0
+Turns anchors event before sent Sent = (reply : Frame) × Answers anchors event reply × (sent ≡ before ++ frame_bytes reply)
+Turns anchors event before sent SendFault = (reply : Frame) × Answers anchors event reply × SendsSome (frame_bytes reply) before sent
+Turns anchors event before sent NoMemory = sent ≡ before
 
 -- all but the output is as before
 pub record OnlySent (old new : Contents) : Type 0 where

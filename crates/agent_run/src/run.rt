@@ -2,8 +2,10 @@ ghost use Rattle.std.specs.Prelude.{◌≡◌, ◌≢◌, ◌≤◌, ◌↔◌, 
 ghost use Rattle.base_types.specs.Causes.{Rose};
 ghost use Rattle.agent_core.specs.Frames.{Frame};
 ghost use Rattle.agent_run.specs.Reading.{End, Events};
-ghost use Rattle.agent_run.specs.Statuses.{status_of};
-ghost use Rattle.agent_run.specs.Outcome.{Ran};
+ghost use Rattle.component_store.specs.declared.config.Config.{Config};
+ghost use Rattle.component_store.specs.Image.{IsImage};
+ghost use Rattle.agent_run.specs.Statuses.{status_of, IsEnding};
+ghost use Rattle.agent_run.specs.Outcome.{Ran, Unmounted};
 ghost use Rattle.agent_run.specs.Words.{IsRun};
 
 use crate::frame::{Next, next_frame};
@@ -13,15 +15,21 @@ use crate::words::is_run;
 use agent_core::Agent;
 use base_types::{FRAME_IN_LIMIT, INPUT_LIMIT};
 use board_core::Board;
+use component_store::{MountFault, load_config};
 use std::alloc::Global;
 use std::thread::Threads;
 
-/// Runs the agent: the words of the command line, and a board for input and output.
+/// Runs the agent: the words of the command line, and a board for input, output and the image of the
+/// device.
 ///
 /// The words are looked at first: `Usage` exactly where they are not `run` alone, and the board is
-/// untouched then. Otherwise each frame of the input is answered, one after the other, and the first
-/// status that arises is the answer:
+/// untouched then. Then the configuration in the image is loaded. Then each frame of the input is
+/// answered, one after the other, and the first status that arises is the answer:
 ///
+/// - `BadImage` exactly where the image is that of no device and no load failed. Nothing is taken or
+///   sent.
+/// - `DiskFault` only where the count of failed disk calls rose in this call, while the image was
+///   loaded. Nothing is taken or sent.
 /// - `Done`, `CutFrame`, `LongFrame`, `InputSpent` exactly by the end of the input where nothing
 ///   failed: it ended between two frames, inside a frame, a frame says a length above 2^21 bytes, or
 ///   2^40 bytes were taken and another is needed. Every frame before that end is answered.
@@ -39,11 +47,18 @@ pub fn run_agent<R: Threads + Sync, B: Board>(
     ensures usage { result ≡ Status.Usage ↔ (IsRun words.now → ⊥) }
     ensures untouched { result ≡ Status.Usage → board.new ≡ board.old }
 
-    // What was taken and what was sent, by the status.
-    ensures ran { B.told → IsRun words.now → Ran FRAME_IN_LIMIT INPUT_LIMIT result (B.now board.old) (B.now board.new) }
+    // Over the image of a device: what was taken and what was sent, by the status.
+    ensures ran { B.told → IsRun words.now → (v : Config) → IsImage v (B.now board.old).bytes →
+        Ran v.anchors FRAME_IN_LIMIT INPUT_LIMIT result (B.now board.old) (B.now board.new) }
+
+    // Over any other image: nothing was taken or sent.
+    ensures unmounted { B.told → IsRun words.now → ((v : Config) → IsImage v (B.now board.old).bytes → ⊥) →
+        Unmounted result (B.now board.old) (B.now board.new) }
+    ensures bad_image { B.told → result ≡ Status.BadImage → (v : Config) → IsImage v (B.now board.old).bytes → ⊥ }
 
     // Where nothing failed, the end of the input decides.
-    ensures exactly { B.told → IsRun words.now →
+    ensures exactly { B.told → IsRun words.now → (v : Config) → IsImage v (B.now board.old).bytes →
+        (Rose (B.faults board.old).disk (B.faults board.new).disk → ⊥) →
         (Rose (B.faults board.old).read (B.faults board.new).read → ⊥) →
         (Rose (B.faults board.old).send (B.faults board.new).send → ⊥) →
         result ≢ Status.NoMemory →
@@ -51,25 +66,29 @@ pub fn run_agent<R: Threads + Sync, B: Board>(
         result ≡ status_of end }
     ensures read_fault { result ≡ Status.ReadFault → Rose (B.faults board.old).read (B.faults board.new).read }
     ensures send_fault { result ≡ Status.SendFault → Rose (B.faults board.old).send (B.faults board.new).send }
-    ensures disk { (B.faults board.new).disk ≡ (B.faults board.old).disk }
+    ensures disk_fault { result ≡ Status.DiskFault → Rose (B.faults board.old).disk (B.faults board.new).disk }
     ensures extent { B.extent board.new ≡ B.extent board.old }
 {
     if !is_run(words) {
         return Status::Usage;
     }
-    run_frames(alloc, board)
+    match load_config(alloc, board) {
+        Ok(config) => run_frames(alloc, Agent::new(config), board),
+        Err(MountFault::BadImage) => Status::BadImage,
+        Err(MountFault::DiskFault) => Status::DiskFault,
+        Err(MountFault::NoMemory) => Status::NoMemory,
+    }
 }
 
 // Answers each frame of the input.
-fn run_frames<B: Board>(alloc: Global, board: &mut B) -> Status
-    ensures ran { B.told → Ran FRAME_IN_LIMIT INPUT_LIMIT result (B.now board.old) (B.now board.new) }
-    ensures words { result ≢ Status.Usage }
+fn run_frames<B: Board>(alloc: Global, mut agent: Agent, board: &mut B) -> Status
+    ensures ran { B.told → Ran agent.anchors FRAME_IN_LIMIT INPUT_LIMIT result (B.now board.old) (B.now board.new) }
+    ensures ends { IsEnding result }
     ensures read_fault { result ≡ Status.ReadFault → Rose (B.faults board.old).read (B.faults board.new).read }
     ensures send_fault { result ≡ Status.SendFault → Rose (B.faults board.old).send (B.faults board.new).send }
     ensures disk { (B.faults board.new).disk ≡ (B.faults board.old).disk }
     ensures extent { B.extent board.new ≡ B.extent board.old }
 {
-    let mut agent = Agent::new();
     let mut taken = 0;
     loop {
         match next_frame(alloc, board, &mut taken) {

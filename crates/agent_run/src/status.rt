@@ -8,10 +8,14 @@ pub enum Status {
     Done,
     /// The words are not `run` alone.
     Usage,
+    /// The image is that of no device.
+    BadImage,
     /// A read failed.
     ReadFault,
     /// A send failed.
     SendFault,
+    /// The disk failed.
+    DiskFault,
     /// The input ended inside a frame.
     CutFrame,
     /// A frame says a length above the limit.
@@ -23,15 +27,17 @@ pub enum Status {
 }
 
 impl Status {
-    /// The number that a program ends with: 0, 2, 4, 5, 7, 8, 9 and 10, in the order of the variants.
+    /// The number that a program ends with: 0 and 2 to 10, in the order of the variants.
     pub fn number(self) -> u8
         ensures { result ≡ number_of self }
     {
         match self {
             Status::Done => 0,
             Status::Usage => 2,
+            Status::BadImage => 3,
             Status::ReadFault => 4,
             Status::SendFault => 5,
+            Status::DiskFault => 6,
             Status::CutFrame => 7,
             Status::LongFrame => 8,
             Status::NoMemory => 9,

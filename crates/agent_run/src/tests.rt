@@ -1,29 +1,41 @@
+mod vectors;
+
 use crate::{Status, one_reading, run_agent};
-use base_types::{FRAME_IN_LIMIT, List, NoMemory, Octets};
+use base_types::{FRAME_IN_LIMIT, List, Octets};
 use board_core::MemoryBoard;
+use component_store::{Config, image_of};
+use std::alloc::Global;
 use std::test::Fail;
 use std::thread::Threads;
-
-// A frame with the question [1, {20: h'0102030405060708'}, [[[18, -46]]], [[-16, -46]], 2].
-const QUESTION: [u8; 30] = [
-    0x01, 0, 0, 0, 0x19, 0x85, 0x01, 0xa1, 0x14, 0x48, 1, 2, 3, 4, 5, 6, 7, 8, 0x81, 0x81, 0x82,
-    0x12, 0x38, 0x2d, 0x81, 0x82, 0x2f, 0x38, 0x2d, 0x02,
-];
+use vectors::{CONFIG, QUESTION};
 
 // The frame with its answer [2, {6: 0, 20: h'0102030405060708'}].
 const RESPONSE: [u8; 20] = [
     0x81, 0, 0, 0, 0x0f, 0x82, 0x02, 0xa2, 0x06, 0x00, 0x14, 0x48, 1, 2, 3, 4, 5, 6, 7, 8,
 ];
 
+// A frame with a question that the manager signed.
+fn question(alloc: Global) -> Result<Octets, Fail> {
+    let mut frame = Octets::from_slice(alloc, &[0x01, 0, 0, 0x05, 0x36])?;
+    frame.extend(&QUESTION)?;
+    Ok(frame)
+}
+
+// The image of the device.
+fn image(alloc: Global) -> Result<Octets, Fail> {
+    Ok(image_of(alloc, &Config::read(alloc, &CONFIG)?)?)
+}
+
 // Runs the agent over a board whose reads give so many bytes at most, and whose calls of these
 // numbers fail: the status, and what was sent.
 fn run<R: Threads + Sync + AllocGlobal>(
     rt: &R,
     words: &[&str],
+    image: Octets,
     piece: usize,
     failing: &[u64],
     input: &[u8],
-) -> Result<(Status, Octets), NoMemory> {
+) -> Result<(Status, Octets), Fail> {
     let alloc = rt.alloc();
     let mut line = Vec::new(alloc);
     for word in words {
@@ -31,7 +43,7 @@ fn run<R: Threads + Sync + AllocGlobal>(
     }
     let input = Octets::from_slice(alloc, input)?;
     let failing = List::from_vec(Vec::from_slice(alloc, failing)?);
-    let mut board = MemoryBoard::new(alloc, input, Octets::new(alloc), piece.max(1), failing)?;
+    let mut board = MemoryBoard::new(alloc, input, image, piece.max(1), failing)?;
     let status = run_agent(rt, alloc, &line, &mut board);
     let (sent, _) = board.crash(board.calls(), 0)?;
     Ok((status, sent))
@@ -41,21 +53,23 @@ fn run<R: Threads + Sync + AllocGlobal>(
 fn inputs_have_their_output_and_status(rt: HostRuntime) -> Result<(), Fail> {
     one_reading();
     let alloc = rt.alloc();
+    let question = question(alloc)?;
+    let question = question.as_slice();
     let mut two = Octets::from_slice(alloc, &[9, 0, 0, 0, 1, 7])?;
-    two.extend(&QUESTION)?;
+    two.extend(question)?;
     let mut replies = Octets::from_slice(alloc, &[0x82, 0, 0, 0, 1, 1])?;
     replies.extend(&RESPONSE)?;
     let table: [(&[u8], &[u8], u8); 6] = [
-        (&QUESTION, &RESPONSE, 0),
+        (question, &RESPONSE, 0),
         (&[], &[], 0),
-        (&QUESTION[..12], &[], 7),
+        (question.get(..12).unwrap_or(&[]), &[], 7),
         (&[1, 0x00, 0x20, 0x00, 0x01], &[], 8),
         (&[3, 0, 0, 0, 0, 9], &[0x82, 0, 0, 0, 1, 1], 7),
         (two.as_slice(), replies.as_slice(), 0),
     ];
     for (at, (input, want, number)) in table.iter().enumerate() {
         for piece in [1, 4096] {
-            let (status, sent) = run(&rt, &["run"], piece, &[], input)?;
+            let (status, sent) = run(&rt, &["run"], image(alloc)?, piece, &[], input)?;
             assert_eq!(rt; status.number(), *number, "input {at}, piece {piece}");
             assert_eq!(rt; sent.as_slice(), *want, "input {at}, piece {piece}");
         }
@@ -69,11 +83,11 @@ fn a_body_of_the_limit_is_read(rt: HostRuntime) -> Result<(), Fail> {
     let mut input = Octets::from_slice(alloc, &[1, 0x00, 0x20, 0x00, 0x00])?;
     input.extend(&vec![in alloc; 0u8; FRAME_IN_LIMIT]?)?;
     for piece in [1, 4096] {
-        let (status, sent) = run(&rt, &["run"], piece, &[], input.as_slice())?;
+        let (status, sent) = run(&rt, &["run"], image(alloc)?, piece, &[], input.as_slice())?;
         assert_eq!(rt; status, Status::Done, "piece {piece}");
         assert_eq!(rt;
             sent.as_slice(),
-            [0x82, 0, 0, 0, 1, 4].as_slice(),
+            [0x82, 0, 0, 0, 1, 2].as_slice(),
             "piece {piece}"
         );
     }
@@ -82,19 +96,46 @@ fn a_body_of_the_limit_is_read(rt: HostRuntime) -> Result<(), Fail> {
 
 #[test]
 fn words_and_faults_have_their_status(rt: HostRuntime) -> Result<(), Fail> {
-    let table: [(&[&str], &[u64], u8, &[u8]); 7] = [
+    let alloc = rt.alloc();
+    let question = question(alloc)?;
+    // the image is loaded by call 0, the head and the body are read by 1 and 2, and 3 is the send
+    let table: [(&[&str], &[u64], u8, &[u8]); 8] = [
         (&["run"], &[], 0, &RESPONSE),
         (&["run", "run"], &[], 2, &[]),
         (&[], &[], 2, &[]),
         (&["runs"], &[], 2, &[]),
-        (&["run"], &[0], 4, &[]),
+        (&["run"], &[0], 6, &[]),
         (&["run"], &[1], 4, &[]),
-        (&["run"], &[2], 5, &RESPONSE[..10]),
+        (&["run"], &[2], 4, &[]),
+        (&["run"], &[3], 5, RESPONSE.get(..10).unwrap_or(&[])),
     ];
     for (at, (words, failing, number, want)) in table.iter().enumerate() {
-        let (status, sent) = run(&rt, words, 4096, failing, &QUESTION)?;
+        let (status, sent) = run(
+            &rt,
+            words,
+            image(alloc)?,
+            4096,
+            failing,
+            question.as_slice(),
+        )?;
         assert_eq!(rt; status.number(), *number, "row {at}");
         assert_eq!(rt; sent.as_slice(), *want, "row {at}");
+    }
+    Ok(())
+}
+
+#[test]
+fn another_image_is_bad(rt: HostRuntime) -> Result<(), Fail> {
+    let alloc = rt.alloc();
+    let question = question(alloc)?;
+    let mut bytes = Vec::from_slice(alloc, image(alloc)?.as_slice())?;
+    if let Some(first) = bytes.get_mut(0) {
+        *first ^= 1;
+    }
+    for image in [Octets::from_vec(bytes), Octets::new(alloc)] {
+        let (status, sent) = run(&rt, &["run"], image, 4096, &[], question.as_slice())?;
+        assert_eq!(rt; status.number(), 3);
+        assert!(rt; sent.is_empty());
     }
     Ok(())
 }

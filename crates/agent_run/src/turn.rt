@@ -28,7 +28,8 @@ pub fn answer<B: Board>(
     kind: u8,
     body: Octets,
 ) -> Turn
-    ensures sent { B.told → Turns (event_by kind body) (B.now board.old).sent (B.now board.new).sent result }
+    ensures sent { B.told → Turns agent.old.anchors (event_by kind body) (B.now board.old).sent (B.now board.new).sent result }
+    ensures agent { agent.new ≡ agent.old }
     ensures only_sent { B.told → OnlySent (B.now board.old) (B.now board.new) }
     ensures extent { B.extent board.new ≡ B.extent board.old }
     ensures fault { IsSendFault result → Rose (B.faults board.old).send (B.faults board.new).send }
@@ -42,7 +43,8 @@ pub fn answer<B: Board>(
 
 // Answers one event: the agent's reply, and then its frame to the output.
 fn answer_event<B: Board>(alloc: Global, agent: &mut Agent, board: &mut B, event: &Event) -> Turn
-    ensures sent { B.told → Turns event.now (B.now board.old).sent (B.now board.new).sent result }
+    ensures sent { B.told → Turns agent.old.anchors event.now (B.now board.old).sent (B.now board.new).sent result }
+    ensures agent { agent.new ≡ agent.old }
     ensures only_sent { B.told → OnlySent (B.now board.old) (B.now board.new) }
     ensures extent { B.extent board.new ≡ B.extent board.old }
     ensures fault { IsSendFault result → Rose (B.faults board.old).send (B.faults board.new).send }

@@ -5,8 +5,9 @@ use Rattle.agent_run.proofs.run.run_frames.Given as goal
 
 abbrev pub invariant-loop-kind : goal.invariant-loop-kind
 invariant-loop-kind g l = record {
+  agent : l.agent ≡ l.initial.agent;
   bounded : l.taken ≤ INPUT_LIMIT;
-  run : g.B.Board.told → Looping FRAME_IN_LIMIT l.taken (g.B.Board.now l.initial.board) (g.B.Board.now l.board);
+  run : g.B.Board.told → Looping l.initial.agent.anchors FRAME_IN_LIMIT l.taken (g.B.Board.now l.initial.board) (g.B.Board.now l.board);
   read : (g.B.Board.faults l.initial.board).read ≤ (g.B.Board.faults l.board).read;
   send : (g.B.Board.faults l.initial.board).send ≤ (g.B.Board.faults l.board).send;
   disk : (g.B.Board.faults l.board).disk ≡ (g.B.Board.faults l.initial.board).disk;
