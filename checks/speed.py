@@ -6,6 +6,7 @@ Run it after `rt ci`, on a quiet machine.
 import os
 import subprocess
 import sys
+import tempfile
 import time
 
 import hss
@@ -13,11 +14,11 @@ import hss
 AGENT = os.path.join(hss.TOP, "crates/teep_agent/out/teep_agent")
 
 
-def seconds(words, given):
+def seconds(words, given, where=None):
     best = None
     for _ in range(5):
         start = time.perf_counter()
-        done = subprocess.run(words, input=given, capture_output=True)
+        done = subprocess.run(words, input=given, capture_output=True, cwd=where)
         spent = time.perf_counter() - start
         if done.returncode != 0:
             raise SystemExit(f"{words}: status {done.returncode}")
@@ -82,9 +83,14 @@ def blocks_of(levels, height, width, public, message, signature):
 
 
 def frames():
-    question = bytes.fromhex("01 00000019 8501a114 48 0102030405060708 8181 8212382d 81822f382d 02")
-    given = question * (2**20 // len(question))
-    print(f"teep_agent run over 1 MiB of questions: {seconds([AGENT, 'run'], given):.3f} s")
+    """Signed questions, over the image of a device: each costs one verification."""
+    with tempfile.TemporaryDirectory() as where:
+        subprocess.run([sys.executable, os.path.join(hss.TOP, "checks/device.py"), where], check=True)
+        with open(os.path.join(where, "question"), "rb") as made:
+            question = made.read()
+        count = 2**20 // len(question)
+        spent = seconds([AGENT, "run"], question * count, where)
+        print(f"teep_agent run over 1 MiB of signed questions: {count / spent:.0f} a second")
 
 
 def appends():
