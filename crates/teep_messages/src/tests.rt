@@ -12,6 +12,16 @@ fn fault_of(alloc: Global, bytes: &[u8]) -> Option<MessageFault> {
     Message::read(alloc, bytes).err()
 }
 
+// The bytes before and behind the option of a message of each kind: [1, {..}, [], [], 0], [2, {..}],
+// [3, {..}], [5, {..}] and [6, {..}, 0].
+const KINDS: [(&[u8], &[u8]); 5] = [
+    (&[0x85, 0x01, 0xa1], &[0x80, 0x80, 0x00]),
+    (&[0x82, 0x02, 0xa1], &[]),
+    (&[0x82, 0x03, 0xa1], &[]),
+    (&[0x82, 0x05, 0xa1], &[]),
+    (&[0x83, 0x06, 0xa1], &[0x00]),
+];
+
 // The Update [3, {label: value}].
 fn update(alloc: Global, option: &[u8]) -> OrMemory<Octets> {
     let mut bytes = Octets::from_slice(alloc, &[0x82, 0x03, 0xa1])?;
@@ -28,7 +38,7 @@ fn size(field: u64) -> Option<MessageFault> {
 }
 
 #[test]
-fn options_have_their_shapes(rt: HostRuntime) -> Result<(), Fail> {
+fn options_have_their_shapes_in_every_kind(rt: HostRuntime) -> Result<(), Fail> {
     let alloc = rt.alloc();
     let table: [(&[u8], Option<MessageFault>); 24] = [
         (&[0x02, 0x48, 1, 2, 3, 4, 5, 6, 7, 8], GOOD),
@@ -57,8 +67,16 @@ fn options_have_their_shapes(rt: HostRuntime) -> Result<(), Fail> {
         (&[0x18, 0x40, 0xf6], GOOD),
     ];
     for (at, (option, want)) in table.iter().enumerate() {
-        let bytes = update(alloc, option)?;
-        assert_eq!(rt; fault_of(alloc, bytes.as_slice()), *want, "row {at}");
+        for (kind, (front, end)) in KINDS.iter().enumerate() {
+            let mut bytes = Octets::from_slice(alloc, front)?;
+            bytes.extend(option)?;
+            bytes.extend(end)?;
+            assert_eq!(rt;
+                fault_of(alloc, bytes.as_slice()),
+                *want,
+                "row {at}, kind {kind}"
+            );
+        }
     }
     Ok(())
 }
