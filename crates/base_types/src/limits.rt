@@ -63,6 +63,15 @@ pub const QUOTA_LEAST: u64 = 16_384;
 /// The greatest quota of a device, in bytes of weight.
 pub const QUOTA_LIMIT: u64 = 33_554_432;
 
+/// The longest identifier of a vendor, a class or a device, in bytes.
+pub const DEVICE_FIELD_LIMIT: usize = 64;
+
+/// How many keys of one role a device may trust.
+pub const ANCHORS_LIMIT: usize = 16;
+
+/// The longest file that the tool reads, in bytes.
+pub const FILE_LIMIT: usize = 1 << 29;
+
 /// How many tokens of a manager may be outstanding at a time.
 pub const OUTSTANDING_TOKENS_LIMIT: usize = 1_024;
 

@@ -1,17 +1,18 @@
 ghost use Rattle.std.specs.Prelude.{◌≡◌, ℕ, [], ◌∷◌, ◌++◌, ◌<◌, length, slice_get, slice_index, ◌↔◌, IsTrue, IfOk, OnOk, OnErr};
 
 use crate::memory::OrMemory;
+use smallvec::SmallVec;
 use std::alloc::{AllocError, Global};
 use std::cmp::Ordering;
 use std::marker::Model;
 
 /// A string of bytes, which contracts see as the list of them, each a number below 256.
 ///
-/// It is made from a `Vec` and gives it back without memory. It is ordered byte by byte, a front
+/// Up to 16 bytes lie in the value itself and take no memory. It is ordered byte by byte, a front
 /// before what goes on behind it, as CBOR map keys are (RFC 8949 section 4.2.1).
 #[derive(Debug, Drop)]
 pub struct Octets {
-    bytes: Vec<u8>,
+    bytes: SmallVec<u8, 16>,
 }
 
 impl Model for Octets {
@@ -28,7 +29,7 @@ impl Octets {
         ensures { result ≡ [] }
     {
         Octets {
-            bytes: Vec::new(alloc),
+            bytes: SmallVec::new(alloc),
         }
     }
 
@@ -36,23 +37,17 @@ impl Octets {
     pub fn from_vec(bytes: Vec<u8>) -> Octets
         ensures { result ≡ bytes.items }
     {
-        Octets { bytes }
+        Octets {
+            bytes: SmallVec::from_vec(bytes),
+        }
     }
 
     /// A copy of the bytes. Refused for want of memory alone.
     pub fn from_slice(alloc: Global, bytes: &[u8]) -> OrMemory<Octets>
         ensures { IfOk result (λ it. it ≡ bytes.now) }
     {
-        let bytes = Vec::from_slice(alloc, bytes)?;
+        let bytes = SmallVec::from_slice(alloc, bytes)?;
         Ok(Octets { bytes })
-    }
-
-    /// The bytes as a `Vec`, moved.
-    pub fn into_vec(self) -> Vec<u8>
-        ensures { result.items ≡ self }
-    {
-        let Octets { bytes } = self;
-        bytes
     }
 
     /// The bytes.
@@ -159,7 +154,7 @@ impl Clone for Octets {
 
     fn clone(&self) -> Result<Octets, AllocError> {
         Ok(Octets {
-            bytes: self.bytes.clone()?,
+            bytes: SmallVec::from_slice(*self.bytes.allocator(), self.bytes.as_slice())?,
         })
     }
 }

@@ -23,7 +23,7 @@ fn octets_grow_and_compare(rt: HostRuntime) -> Result<(), Fail> {
     assert!(rt; bytes.clone()? == bytes);
     let front = Octets::from_slice(alloc, &[7, 8])?;
     assert!(rt; front < bytes);
-    let longer = Octets::from_vec(front.into_vec());
+    let longer = front.try_clone(alloc)?;
     assert!(rt; longer != bytes);
     Ok(())
 }

@@ -60,8 +60,10 @@ fn read_text(alloc: Global, input: &mut Input<'_>, at: usize, n: u64) -> Result<
     }
 }
 
-/// Reads an item inside which so many containers may still stand.
+/// Reads an item inside which so many containers may still stand. It is put into its callers, so that
+/// its answer does not go through memory.
 #[cycle(reader)]
+#[inline(always)]
 #[tactic(auto, using(crate::proofs::Depth::depths))]
 fn read_item(alloc: Global, depth: u8, input: &mut Input<'_>) -> Result<Item, CborFault>
     ensures { Gives (item_at depth input.old) result input.new }

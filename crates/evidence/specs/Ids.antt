@@ -1,6 +1,6 @@
 -- What a device is known by.
 use Rattle.std.specs.Prelude.{◌≤◌, ℕ, List, length}
-use Rattle.evidence.specs.declared.ids.TheConstants.{DEVICE_FIELD_LIMIT}
+use Rattle.base_types.specs.declared.limits.TheConstants.{DEVICE_FIELD_LIMIT}
 use Rattle.evidence.specs.declared.ids.DeviceIds.{DeviceIds}
 
 -- 1 to 64 bytes

@@ -1,10 +1,7 @@
 ghost use Rattle.std.specs.Prelude.{◌↔◌, IsTrue};
 ghost use Rattle.evidence.specs.Ids.{IsField, AreIds};
 
-use base_types::Octets;
-
-/// The longest identifier of a vendor, a class or a device, in bytes.
-pub const DEVICE_FIELD_LIMIT: usize = 64;
+use base_types::{DEVICE_FIELD_LIMIT, Octets};
 
 /// What a device is known by: its vendor, its class and its own number, each of 1 to 64 bytes.
 #[derive(Debug, Drop, Eq, PartialEq)]

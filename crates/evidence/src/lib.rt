@@ -5,4 +5,4 @@ mod ids;
 #[cfg(test)]
 mod tests;
 
-pub use ids::{DEVICE_FIELD_LIMIT, DeviceIds, is_field};
+pub use ids::{DeviceIds, is_field};

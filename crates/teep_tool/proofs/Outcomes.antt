@@ -5,7 +5,7 @@ use Rattle.teep_tool.specs.Contents.{Contents}
 use Rattle.teep_tool.specs.Calls.{ReadsFile}
 use Rattle.teep_tool.specs.Show.{ShowsItem, ShowsFault, IsShown, Outcome, Showed, CallsFor}
 use Rattle.teep_tool.specs.Showing.{IsLine, LineOutcome, ShowedBytes}
-use Rattle.teep_tool.specs.declared.host.TheConstants.{FILE_LIMIT}
+use Rattle.base_types.specs.declared.limits.TheConstants.{FILE_LIMIT}
 use Rattle.teep_tool.specs.declared.status.Status.{Status}
 use Rattle.teep_tool.specs.declared.status.Status.TheVariants.{Done, Refused, Usage, HostFault, LongFile, NoMemory}
 

@@ -2,7 +2,7 @@
 use Rattle.std.specs.Prelude.{◌≡◌, ◌≤◌, ◌<◌, ◌++◌, ℕ, List, length, Option, Some, Result, Ok, Err, OnOk}
 use Rattle.base_types.specs.Causes.{Rose}
 use Rattle.teep_tool.specs.Contents.{Contents}
-use Rattle.teep_tool.specs.declared.host.TheConstants.{FILE_LIMIT}
+use Rattle.base_types.specs.declared.limits.TheConstants.{FILE_LIMIT}
 use Rattle.teep_tool.specs.declared.host.HostFault.{HostFault}
 use Rattle.teep_tool.specs.declared.host.HostFault.TheVariants.{Failed, Long, NoMemory}
 

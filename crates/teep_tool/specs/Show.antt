@@ -9,7 +9,7 @@ use Rattle.diag_text.specs.Printed.{printed}
 use Rattle.teep_tool.specs.Contents.{Contents}
 use Rattle.teep_tool.specs.Calls.{IsLong, PrintsSome}
 use Rattle.teep_tool.specs.Statuses.{number_of}
-use Rattle.teep_tool.specs.declared.host.TheConstants.{FILE_LIMIT}
+use Rattle.base_types.specs.declared.limits.TheConstants.{FILE_LIMIT}
 use Rattle.teep_tool.specs.declared.status.Status.{Status}
 use Rattle.teep_tool.specs.declared.status.Status.TheVariants.{Done, Refused, Usage, HostFault, LongFile, NoMemory}
 

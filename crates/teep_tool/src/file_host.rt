@@ -3,8 +3,8 @@ ghost use Rattle.std.specs.Prelude.{◌≡◌, ◌≤◌, ◌+◌, ℕ, [], leng
 ghost use Rattle.base_types.specs.Causes.{HasCause};
 ghost use Rattle.teep_tool.specs.Calls.{ReadCause};
 
-use crate::host::{FILE_LIMIT, Host, HostFault};
-use base_types::{Failed, Octets};
+use crate::host::{Host, HostFault};
+use base_types::{FILE_LIMIT, Failed, Octets};
 use std::alloc::Global;
 use std::fs::{File, OpenFile};
 use std::io::{self, ErrorKind, Read};

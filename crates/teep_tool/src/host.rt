@@ -7,9 +7,6 @@ ghost use Rattle.teep_tool.specs.Calls.{ReadCause, ReadsFile, PrintsText};
 use base_types::{Failed, Octets};
 use thiserror::Error;
 
-/// The longest file that the tool reads, in bytes.
-pub const FILE_LIMIT: usize = 1 << 29;
-
 /// Why a file was not read.
 #[derive(Clone, Copy, Debug, Eq, Error, PartialEq)]
 pub enum HostFault {

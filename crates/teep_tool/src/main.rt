@@ -15,7 +15,7 @@ mod tests;
 mod words;
 
 pub use file_host::FileHost;
-pub use host::{FILE_LIMIT, Host, HostFault};
+pub use host::{Host, HostFault};
 pub use memory_host::{MemoryHost, Named};
 pub use run::run_tool;
 pub use status::Status;

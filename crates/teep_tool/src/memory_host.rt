@@ -3,8 +3,8 @@ ghost use Rattle.std.specs.Prelude.{◌≡◌, Some, Err, option_map, IfOk, IsEr
 ghost use Rattle.teep_tool.specs.Calls.{Gives};
 ghost use Rattle.teep_tool.specs.Memory.{file_in};
 
-use crate::host::{FILE_LIMIT, Host, HostFault};
-use base_types::{Failed, List, Octets, OrMemory, Utf8};
+use crate::host::{Host, HostFault};
+use base_types::{FILE_LIMIT, Failed, List, Octets, OrMemory, Utf8};
 use std::alloc::Global;
 
 /// A file of a host in memory.

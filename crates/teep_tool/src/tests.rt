@@ -1,5 +1,5 @@
-use crate::{FILE_LIMIT, MemoryHost, Named, run_tool};
-use base_types::{List, NoMemory, Octets, Utf8};
+use crate::{MemoryHost, Named, run_tool};
+use base_types::{FILE_LIMIT, List, NoMemory, Octets, Utf8};
 use std::alloc::Global;
 use std::test::Fail;
 use std::thread::Threads;

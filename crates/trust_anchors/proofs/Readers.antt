@@ -7,7 +7,7 @@ use Rattle.cbor_core.specs.declared.item.Item.TheVariants as i
 use Rattle.cbor_core.specs.Views.{array_of}
 use Rattle.cose_core.proofs.Views.{array_back}
 use Rattle.trust_anchors.specs.declared.anchors.Anchors.{Anchors}
-use Rattle.trust_anchors.specs.declared.anchors.TheConstants.{ANCHORS_LIMIT}
+use Rattle.base_types.specs.declared.limits.TheConstants.{ANCHORS_LIMIT}
 use Rattle.trust_anchors.specs.declared.role.Role.{Role}
 use Rattle.trust_anchors.specs.declared.role.Role.TheVariants as role
 use Rattle.trust_anchors.specs.declared.fault.AnchorFault.{AnchorFault}

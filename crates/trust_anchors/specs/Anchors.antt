@@ -8,7 +8,7 @@ use Rattle.cose_core.specs.declared.key.CoseKey.{CoseKey}
 use Rattle.cose_core.specs.Key.{KeyIs, written_key}
 use Rattle.hss_verify.specs.Hss.{IsHssPublic}
 use Rattle.trust_anchors.specs.declared.anchors.Anchors.{Anchors}
-use Rattle.trust_anchors.specs.declared.anchors.TheConstants.{ANCHORS_LIMIT}
+use Rattle.base_types.specs.declared.limits.TheConstants.{ANCHORS_LIMIT}
 use Rattle.trust_anchors.specs.declared.role.Role.{Role}
 use Rattle.trust_anchors.specs.declared.role.Role.TheVariants as role
 use Rattle.trust_anchors.specs.declared.fault.AnchorFault.{AnchorFault}

@@ -6,14 +6,11 @@ use crate::reading::{are_strings, read_keys, two_arrays};
 use crate::role::Role;
 use crate::signers::first_signer;
 use crate::writing::write_keys;
-use base_types::{List, OrMemory};
+use base_types::{ANCHORS_LIMIT, List, OrMemory};
 use cbor_core::Item;
 use cose_core::{Sign1, signed_bytes};
 use hss_verify::HssPublic;
 use std::alloc::Global;
-
-/// How many keys of one role there may be.
-pub const ANCHORS_LIMIT: usize = 16;
 
 /// The keys that a device trusts, at most 16 of each role.
 #[derive(Debug, Drop, Eq, PartialEq)]

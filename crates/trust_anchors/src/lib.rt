@@ -10,6 +10,6 @@ mod signers;
 mod tests;
 mod writing;
 
-pub use anchors::{ANCHORS_LIMIT, Anchors};
+pub use anchors::Anchors;
 pub use fault::{AnchorFault, SignFault};
 pub use role::Role;

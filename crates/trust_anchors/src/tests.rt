@@ -1,6 +1,7 @@
 mod vectors;
 
-use crate::{ANCHORS_LIMIT, AnchorFault, Anchors, Role, SignFault};
+use crate::{AnchorFault, Anchors, Role, SignFault};
+use base_types::ANCHORS_LIMIT;
 use cbor_core::{Item, List, Octets};
 use cose_core::{CoseKey, Sign1};
 use hss_verify::HssPublic;
