@@ -4,6 +4,8 @@ pub mod Inputs
 pub mod Steps
 pub mod Parts
 pub mod Hashes
+pub mod Slots
 pub mod Ends
+pub mod Turned
 pub mod Keys
 pub mod Signatures

@@ -13,6 +13,13 @@ pub(crate) fn array_at<const N: usize>(bytes: &[u8], place: usize) -> [u8; N]
     array
 }
 
+/// Room for `N` bytes.
+pub(crate) fn blank<const N: usize>() -> [u8; N]
+    ensures { length result ≡ N }
+{
+    [0; N]
+}
+
 /// The number that the four bytes from a place on spell, high byte first.
 pub fn read_u32(bytes: &[u8], place: usize) -> u32
     requires { place + 4 ≤ length bytes.now }

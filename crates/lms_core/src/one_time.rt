@@ -1,12 +1,13 @@
 //! One-time signatures.
 
-ghost use Rattle.std.specs.Prelude.{◌≡◌, ◌*◌, ◌/◌, ◌<◌, length};
-ghost use Rattle.lms_core.specs.Parameters.{IsOtsRow, IsWidth};
-ghost use Rattle.lms_core.specs.OneTime.{chain_end, key_candidate, message_hash};
+ghost use Rattle.std.specs.Prelude.{◌≡◌, ◌*◌, ◌<◌, ℕ, length, slice_index};
+ghost use Rattle.lms_core.specs.Parameters.{IsOtsRow};
+ghost use Rattle.lms_core.specs.Digits.{coef};
+ghost use Rattle.lms_core.specs.OneTime.{key_candidate, message_hash};
 ghost use Rattle.lms_core.specs.Layout.{hashes_in};
 
-use crate::bytes::array_at;
-use crate::chains::chain;
+use crate::bytes::blank;
+use crate::chains::finish_all;
 use crate::digits::{coef, signed_string};
 use crate::parameters::OtsParams;
 use sha2::{Digest, Sha256};
@@ -15,6 +16,11 @@ use sha2::{Digest, Sha256};
 const MESSAGE_DOMAIN: [u8; 2] = [0x81, 0x81];
 
 const PUBLIC_KEY_DOMAIN: [u8; 2] = [0x80, 0x80];
+
+// The largest number of chains, that of width 1, and the bytes of so many strings.
+const MOST_CHAINS: usize = 265;
+
+const MOST_BYTES: usize = 32 * MOST_CHAINS;
 
 /// Q, the hash of a message to be signed at leaf `q`, H(I || u32str(q) || D_MESG || C || message)
 /// (RFC 8554, 4.5).
@@ -48,33 +54,30 @@ pub(crate) fn key_candidate(
     requires whole { length ys.now ≡ 32 * params.p }
     ensures { result ≡ key_candidate identifier.now q params digest.now (hashes_in params.p ys.now) }
 {
-    let string = signed_string(digest, params);
     let w = params.w;
+    let digits = all_digits(&signed_string(digest, params), params);
+    let mut room: [u8; MOST_BYTES] = blank();
+    let values = &mut room[..ys.len()];
+    values.copy_from_slice(ys);
+    let largest = ((1u16 << w) - 1) as u8;
+    finish_all(identifier, q, largest, &digits[..params.p as usize], values);
     let mut hasher = Sha256::new();
     hasher.update(identifier.as_slice());
     hasher.update(q.to_be_bytes().as_slice());
     hasher.update(PUBLIC_KEY_DOMAIN.as_slice());
-    for i in 0..params.p as u16 {
-        let y = array_at(ys, 32 * i as usize);
-        let z = chain_end(identifier, q, w, &string, i, &y);
-        hasher.update(z.as_slice());
-    }
+    hasher.update(values);
     hasher.finalize()
 }
 
-// z_i, the end of chain `i` from y_i at the digit `i` of what is signed (RFC 8554, 4.6).
-fn chain_end(
-    identifier: &[u8; 16],
-    q: u32,
-    w: u32,
-    string: &[u8; 34],
-    i: u16,
-    y: &[u8; 32],
-) -> [u8; 32]
-    requires width { IsWidth w }
-    requires inside { i * w / 8 < 34 }
-    ensures { result ≡ chain_end identifier.now q w string.now i y.now }
+// The digits of what is signed, one for each chain.
+fn all_digits(string: &[u8; 34], params: OtsParams) -> [u8; MOST_CHAINS]
+    requires { IsOtsRow params }
+    ensures { (i : ℕ) → i < params.p → slice_index result i ≡ coef string.now i params.w }
 {
-    let largest = ((1u16 << w) - 1) as u8;
-    chain(identifier, q, i, coef(string, i, w), largest, y)
+    let w = params.w;
+    let mut digits: [u8; MOST_CHAINS] = blank();
+    for i in 0..params.p as u16 {
+        digits[i as usize] = coef(string, i, w);
+    }
+    digits
 }

@@ -1,38 +1,31 @@
-use Rattle.std.proofs.Common.{◌≡◌, ◌++◌, List, ℕ, subst, sym, ◌∙◌, ap, arith, rules}
-use Rattle.std.proofs.lemmas.List.{append-nil, append_assoc}
-use Rattle.sha2.specs.Hashers.{Holds256}
+use Rattle.std.proofs.Common.{◌≡◌, ℕ, ◌*◌, ◌-◌, ◌%◌, ◌^◌, ◌<◌, List, ◌++◌, length, take, slice_index, ◌∙◌, ap, arith, rules}
+use Rattle.std.proofs.lemmas.List.{get_or-take, length-take-le}
 use Rattle.sha2.specs.Sha256.{sha256}
 use Rattle.lms_core.specs.Bytes.{u32_bytes}
-use Rattle.lms_core.specs.Layout.{hashes_in}
+use Rattle.lms_core.specs.Digits.{coef, signed_string}
 use Rattle.lms_core.specs.OneTime.{chain_end, key_candidate, public_key_domain}
-use Rattle.lms_core.proofs.Ends.{ends, ends_more}
-use Rattle.lms_core.proofs.Hashes.{get_or-hashes_in}
+use Rattle.lms_core.proofs.Ends.{end_is, ends_joined}
+use Rattle.lms_core.proofs.Rows.{shifted_one, width_of_row}
+use Rattle.lms_core.proofs.Slots.{slot}
 use Rattle.lms_core.proofs.one_time.key_candidate.Goals as goal
-
-pub loop-i-init : goal.loop-i-init
-loop-i-init c = rw append-nil (search rules)
-
-pub loop-i-preserved : goal.loop-i-preserved
-loop-i-preserved c =
-    let identifier = c.args.identifier.now in
-    let ys = hashes_in c.args.params.p c.args.ys.now in
-    let string = c.signed_string-string.result in
-    let front = identifier ++ u32_bytes c.args.q ++ public_key_domain in
-    let so_far = ends identifier c.args.q c.args.params.w string ys c.loop-i.i in
-    let y = c.array_at-y.ensures ∙ sym (get_or-hashes_in c.args.params.p c.loop-i.i c.args.ys.now (omega arith)) in
-    let z = c.as_slice-in-loop-i.ensures ∙ c.chain_end-z.ensures ∙ ap (chain_end identifier c.args.q c.args.params.w string c.loop-i.i) y in
-    let more = ends_more identifier c.args.q c.args.params.w string ys c.loop-i.i in
-    let message = ap (λ (x : List ℕ). front ++ so_far ++ x) z ∙ append_assoc front so_far _ ∙ sym (ap (λ (x : List ℕ). front ++ x) more) in
-    let P : List ℕ → Type 0 = λ m. Holds256 c.update-in-loop-i.new.self m in
-    subst P message (c.update-in-loop-i.ensures (front ++ so_far) c.loop-i.invariant)
 
 pub returns : goal.returns
 unfolding key_candidate
 returns c =
     let identifier = c.args.identifier.now in
-    let ys = hashes_in c.args.params.p c.args.ys.now in
+    let w = c.args.params.w in
+    let p = c.args.params.p in
+    let ys = c.args.ys.now in
+    let string = signed_string c.args.digest.now w c.args.params.ls in
+    let digits = c.all_digits-digits.result in
+    let values = c.finish_all.new.values in
     let front = identifier ++ u32_bytes c.args.q ++ public_key_domain in
-    let count : c.loop-i.i ≡ c.args.params.p = omega arith in
-    c.finalize.ensures (front ++ ends identifier c.args.q c.args.params.w c.signed_string-string.result ys c.loop-i.i) c.loop-i.invariant
-    ∙ ap (λ (n : ℕ). sha256 (front ++ ends identifier c.args.q c.args.params.w c.signed_string-string.result ys n)) count
-    ∙ ap (λ (s : List ℕ). sha256 (front ++ ends identifier c.args.q c.args.params.w s ys c.args.params.p)) c.signed_string-string.ensures
+    let size : length values ≡ 32 * p = c.finish_all.ensures.length ∙ ap length c.copy_from_slice.ensures.after ∙ c.requires.whole in
+    let count : length (take p digits) ≡ p = length-take-le p digits (grind arith) in
+    let largest : 1 * 2 ^ w % 65536 - 1 ≡ 2 ^ w - 1 = ap (λ (n : ℕ). n - 1) (shifted_one w (width_of_row c.args.params c.requires.row)) in
+    let digit : (i : ℕ) → i < p → slice_index (take p digits) i ≡ coef string i w = λ i h. get_or-take p digits i 0 h ∙ c.all_digits-digits.ensures i h ∙ ap (λ (x : List ℕ). coef x i w) c.signed_string.ensures in
+    let start : (i : ℕ) → slot c.copy_from_slice.new.self i ≡ slot ys i = λ i. ap (λ (x : List ℕ). slot x i) c.copy_from_slice.ensures.after in
+    let ends : (i : ℕ) → i < p → slot values i ≡ chain_end identifier c.args.q w string i (slot ys i) = λ i h.
+    end_is identifier c.args.q w string i _ _ _ (slot ys i) (slot values i) (c.finish_all.ensures.ends i (rw count h)) largest (digit i h) (start i) in
+    c.finalize.ensures (front ++ values) (search rules)
+    ∙ ap (λ (x : List ℕ). sha256 (front ++ x)) (ends_joined identifier c.args.q w string ys values p size ends)
