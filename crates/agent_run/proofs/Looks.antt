@@ -1,8 +1,7 @@
 -- One look for a frame.
 use Rattle.std.proofs.Common.{◌≡◌, ◌^◌, ◌≤◌, ◌<◌, ℕ, zero, suc, List, [], ◌∷◌, ◌++◌, length, get_or, refl, sym, ◌∙◌, ap, subst, inr, arith, length-append, append_assoc}
 use Rattle.std.proofs.lemmas.List.{append-nil, take_all}
-use Rattle.std.proofs.lemmas.Nat.{be_bytes_4}
-use Rattle.std.specs.Int.{from_be_bytes, w32}
+use Rattle.std.specs.Int.{to_be_bytes, w32}
 use Rattle.std.proofs.Common.{take}
 use Rattle.board_core.specs.Contents.{Contents}
 use Rattle.agent_core.specs.Frames.{four_bytes}
@@ -26,16 +25,10 @@ five (a ∷ b ∷ c ∷ d ∷ e ∷ f ∷ l) is = absurd (omega arith)
 pub took_all : {old new : Contents} (l : List ℕ) → Took (take (length l) l) old new → Took l old new
 took_all {old} {new} l t = subst (λ (k : List ℕ). Took k old new) (take_all (length l) l (omega arith)) t
 
--- the length that four bytes spell
-pub spelled : (a b c d size : ℕ) → a < 256 → b < 256 → c < 256 → d < 256 → size ≡ from_be_bytes w32 (a ∷ b ∷ c ∷ d ∷ []) → four_bytes size ≡ a ∷ b ∷ c ∷ d ∷ []
+-- the length whose bytes are these
+pub said : (n : ℕ) (bytes : List ℕ) → to_be_bytes w32 n ≡ bytes → four_bytes n ≡ bytes
 unfolding four_bytes
-spelled a b c d size a_fits b_fits c_fits d_fits is = be_bytes_4 (a ∷ b ∷ c ∷ d ∷ []) size refl each is where
-  each : (i : ℕ) → get_or (a ∷ b ∷ c ∷ d ∷ []) i 0 < 256
-  each zero = a_fits
-  each (suc zero) = b_fits
-  each (suc (suc zero)) = c_fits
-  each (suc (suc (suc zero))) = d_fits
-  each (suc (suc (suc (suc i)))) = omega arith
+said n bytes is = is
 
 pub length-four_bytes : (n : ℕ) → length (four_bytes n) ≡ 4
 unfolding four_bytes

@@ -1,12 +1,11 @@
 // One frame off the input.
-ghost use Rattle.std.specs.Prelude.{◌≡◌, ◌+◌, ◌<◌, ◌≤◌, [], ◌∷◌, length, IfOk};
+ghost use Rattle.std.specs.Prelude.{◌≡◌, ◌+◌, ◌<◌, ◌≤◌, length, IfOk};
 ghost use Rattle.base_types.specs.Causes.{Rose};
-ghost use Rattle.agent_core.specs.Frames.{four_bytes};
 ghost use Rattle.agent_run.specs.Nexts.{Nexts, Bodies, Grows, IsReadFault};
 ghost use Rattle.agent_run.specs.Filling.{TookSome};
 
 use crate::fill::{Fill, fill_from};
-use base_types::{FRAME_IN_LIMIT, INPUT_LIMIT, Octets, OrMemory};
+use base_types::{FRAME_IN_LIMIT, INPUT_LIMIT, Octets, OrMemory, number_of};
 use board_core::Board;
 use std::alloc::Global;
 
@@ -25,13 +24,6 @@ pub enum Next {
     Spent,
     ReadFault,
     NoMemory,
-}
-
-// The length that four bytes say, the highest first.
-fn length_said(a: u8, b: u8, c: u8, d: u8) -> u32
-    ensures { four_bytes result ≡ a ∷ b ∷ c ∷ d ∷ [] }
-{
-    u32::from_be_bytes([a, b, c, d])
 }
 
 // So many bytes of any value.
@@ -63,7 +55,7 @@ pub fn next_frame<B: Board>(alloc: Global, board: &mut B, taken: &mut u64) -> Ne
         Fill::Failed(_) => return Next::ReadFault,
     }
     let [kind, a, b, c, d] = head;
-    let size = length_said(a, b, c, d) as usize;
+    let size = number_of(a, b, c, d) as usize;
     if size > FRAME_IN_LIMIT {
         return Next::Long;
     }

@@ -10,6 +10,7 @@ mod failed;
 mod limits;
 mod list;
 mod memory;
+mod number;
 mod octets;
 #[cfg(test)]
 mod tests;
@@ -28,5 +29,6 @@ pub use limits::{
 };
 pub use list::List;
 pub use memory::{NoMemory, OrMemory};
+pub use number::number_of;
 pub use octets::Octets;
 pub use text::Utf8;

@@ -1,4 +1,4 @@
-use crate::{Boxed, List, Octets, Utf8};
+use crate::{Boxed, List, Octets, Utf8, number_of};
 use std::test::Fail;
 
 /// A type that holds itself through a list and a box.
@@ -86,5 +86,13 @@ fn faults_say_what_they_are(rt: HostRuntime) -> Result<(), Fail> {
         format!(in alloc; "{failed}")?.as_str(),
         "the outside failed"
     );
+    Ok(())
+}
+
+#[test]
+fn four_bytes_are_a_number(rt: HostRuntime) -> Result<(), Fail> {
+    assert_eq!(rt; number_of(0, 0, 0, 0), 0);
+    assert_eq!(rt; number_of(0x12, 0x34, 0x56, 0x78), 0x1234_5678);
+    assert_eq!(rt; number_of(255, 255, 255, 255), u32::MAX);
     Ok(())
 }

@@ -1,5 +1,5 @@
 -- What a board holds, and its counts of faults.
-use Rattle.std.specs.Prelude.{◌≡◌, List, ℕ, Bool, IsTrue}
+use Rattle.std.specs.Prelude.{◌≤◌, ◌≡◌, List, ℕ, Bool, IsTrue}
 
 -- what a board that tells its contents holds
 pub record Contents : Type 0 where
@@ -21,6 +21,12 @@ pub record Faults : Type 0 where
   pub read : ℕ
   pub send : ℕ
   pub disk : ℕ
+
+-- the counts of reads and sends are as before, and that of the disk has not fallen
+pub record DiskAlone (old new : Faults) : Type 0 where
+  pub read : new.read ≡ old.read
+  pub send : new.send ≡ old.send
+  pub disk : old.disk ≤ new.disk
 
 -- no put waits for a sync
 abbrev pub NothingPending : Contents → Type 0

@@ -11,3 +11,4 @@ pub mod KeyOrder
 pub mod Faults
 pub mod Refused
 pub mod Tables
+pub mod Sizes

@@ -8,7 +8,7 @@ use Rattle.cbor_core.specs.declared.item.Item.{Item}
 use Rattle.cbor_core.specs.declared.item.Item.TheVariants as i
 use Rattle.cbor_core.specs.Spelling.{head, spelling, spellings, pair_spelling, pair_spellings}
 use Rattle.cbor_core.proofs.Spell.{spelling_Unsigned, spelling_Negative, spelling_Bytes, spelling_Array, spelling_Map, pair_spelling_out}
-use Rattle.cbor_core.proofs.Heads.{head_short, head_8, head_16, head_32, head_64}
+use Rattle.cbor_core.proofs.Sizes.{head_size, number_size, string_size, array_size}
 use Rattle.lms_core.proofs.Keys.{fields_at}
 use Rattle.lms_core.specs.Bytes.{u32_bytes}
 use Rattle.hss_verify.specs.Hss.{IsHssPublic}
@@ -23,28 +23,6 @@ use Rattle.evidence.specs.Ids.{AreIds}
 use Rattle.hss_sign.specs.Params.{IsProperParams}
 use Rattle.component_store.specs.Config.{PartsAre, ConfigIs, IsConfig}
 use Rattle.component_store.specs.Written.{written_config}
-
--- a head has nine bytes at most (RFC 8949, section 3)
-pub head_size : (major n : ℕ) → length (head major n) ≤ 9
-head_size major n = elim (cases_lt n 24) [
-  | inl short ↦ rw (head_short major n short) (omega arith)
-  | inr long ↦ elim (cases_lt n 256) [
-    | inl one ↦ rw (head_8 major n long one) (omega arith)
-    | inr long1 ↦ elim (cases_lt n 65536) [
-      | inl two ↦ rw (head_16 major n long1 two) (omega arith)
-      | inr long2 ↦ elim (cases_lt n 4294967296) [
-        | inl four ↦ rw (head_32 major n long2 four) (omega arith)
-        | inr long4 ↦ rw (head_64 major n long4) (omega arith)
-      ]
-    ]
-  ]
-]
-
-string_size : (bytes : List ℕ) → length (spelling (i.Bytes bytes)) ≤ 9 + length bytes
-string_size bytes = rw (spelling_Bytes bytes, length-append (head 2 (length bytes)) bytes) (omega (arith, head_size 2 (length bytes)))
-
-number_size : (n : ℕ) → length (spelling (i.Unsigned n)) ≤ 9
-number_size n = rw (spelling_Unsigned n) (head_size 0 n)
 
 key_bytes : (public : List ℕ) → spelling (written_key (record { kid = None; public = public }))
     ≡ head 5 3 ++ ((head 0 1 ++ head 0 5) ++ ((head 0 3 ++ head 1 45) ++ ((head 1 0 ++ (head 2 (length public) ++ public)) ++ [])))
@@ -71,9 +49,6 @@ keys_size [] (x ∷ xs) all = absurd all
 keys_size (k ∷ keys) [] all = absurd all
 keys_size (k ∷ keys) (x ∷ xs) all =
     rw (length-append (spelling (wrapped_key k)) (spellings (map wrapped_key keys))) (omega (arith, wrapped_size k x all.0, keys_size keys xs all.1))
-
-array_size : (xs : List Item) → length (spelling (i.Array xs)) ≤ 9 + length (spellings xs)
-array_size xs = rw (spelling_Array xs, length-append (head 4 (length xs)) (spellings xs)) (omega (arith, head_size 4 (length xs)))
 
 -- what is known of the parts of a configuration
 pub record Within (v : Config) : Type 0 where

@@ -1,6 +1,5 @@
 -- What a look at an image answers.
-use Rattle.std.specs.Prelude.{◌≡◌, ◌≤◌, ◌⊎◌, ℕ, List, Result, Ok, Err}
-use Rattle.board_core.specs.Contents.{Faults}
+use Rattle.std.specs.Prelude.{◌≡◌, ℕ, List, Result, Ok, Err}
 use Rattle.component_store.specs.declared.config.Config.{Config}
 use Rattle.component_store.specs.declared.fault.MountFault.{MountFault}
 use Rattle.component_store.specs.declared.fault.MountFault.TheVariants.{BadImage, DiskFault, NoMemory}
@@ -12,9 +11,3 @@ Loaded image (Ok v) = IsImage v image
 Loaded image (Err BadImage) = (v : Config) → IsImage v image → ⊥
 Loaded image (Err DiskFault) = Unit {0}
 Loaded image (Err NoMemory) = Unit {0}
-
--- of the counts that of the disk alone may have risen
-pub record DiskAlone (old new : Faults) : Type 0 where
-  pub later : old.disk ≤ new.disk
-  pub read : new.read ≡ old.read
-  pub send : new.send ≡ old.send

@@ -3,7 +3,8 @@ ghost use Rattle.std.specs.Prelude.{◌≡◌, ◌≢◌, ◌≤◌, ℕ, List, 
 ghost use Rattle.base_types.specs.Causes.{Rose};
 ghost use Rattle.board_core.specs.Contents.{Same};
 ghost use Rattle.board_core.specs.Moments.{Passes, NoMoment};
-ghost use Rattle.component_store.specs.Loading.{Loaded, DiskAlone};
+ghost use Rattle.board_core.specs.Contents.{DiskAlone};
+ghost use Rattle.component_store.specs.Loading.{Loaded};
 
 use crate::config::Config;
 use crate::fault::{ConfigFault, MountFault};

@@ -11,7 +11,8 @@ use Rattle.journal_core.specs.declared.fault.JournalFault.TheVariants as mount
 use Rattle.journal_core.specs.Region.{region_size, half_at, selected, HalfStands}
 use Rattle.journal_core.specs.Kept.{Kept, IsWithin, IsOf}
 use Rattle.journal_core.specs.Scanning.{IsEmpty, GateIs, behind, TakesIn, Scans}
-use Rattle.journal_core.specs.Outcome.{DiskAlone, Mounts}
+use Rattle.board_core.specs.Contents.{DiskAlone}
+use Rattle.journal_core.specs.Outcome.{Mounts}
 use Rattle.journal_core.proofs.Scanned.{Scanned, begins, started, taken, closed, overrun}
 
 -- The journal has taken in some bodies of the image that was there at first, and nothing else has changed.

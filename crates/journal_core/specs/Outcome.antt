@@ -1,6 +1,6 @@
 -- What the calls of a journal answer and leave.
 use Rattle.std.specs.Prelude.{◌≡◌, ℕ, ◌+◌, ◌≤◌, List, Result, Ok, Err}
-use Rattle.board_core.specs.Contents.{Contents, Faults, Silent}
+use Rattle.board_core.specs.Contents.{Contents, Silent}
 use Rattle.journal_core.specs.declared.fault.JournalFault.{JournalFault}
 use Rattle.journal_core.specs.declared.fault.JournalFault.TheVariants as mount
 use Rattle.journal_core.specs.declared.region.Region.{Region}
@@ -10,12 +10,6 @@ use Rattle.journal_core.specs.Kept.{Kept, Fits}
 -- no list for which the region stands
 abbrev pub StandsForNone : Region → List ℕ → Type 0
 StandsForNone region image = (bodies : List (List ℕ)) → RegionStands region image bodies → ⊥
-
--- the counts of reads and sends are as before, and that of the disk has not fallen
-pub record DiskAlone (old new : Faults) : Type 0 where
-  pub read : new.read ≡ old.read
-  pub send : new.send ≡ old.send
-  pub disk : old.disk ≤ new.disk
 
 -- A journal is kept for the list that the region stands for. NoJournal: there is none.
 abbrev pub Mounts : Region → List ℕ → Result Kept JournalFault → Type 0

@@ -6,7 +6,8 @@ ghost use Rattle.board_core.specs.Calls.{DiskCause};
 ghost use Rattle.journal_core.specs.Region.{selected};
 ghost use Rattle.journal_core.specs.Kept.{IsWithin, IsOf};
 ghost use Rattle.journal_core.specs.Scanning.{IsEmpty, Scans, GateIs, FitsIn, behind, TakesIn};
-ghost use Rattle.journal_core.specs.Outcome.{DiskAlone, Mounts};
+ghost use Rattle.board_core.specs.Contents.{DiskAlone};
+ghost use Rattle.journal_core.specs.Outcome.{Mounts};
 
 use crate::fault::JournalFault;
 use crate::framed::OPEN;

@@ -6,7 +6,8 @@ ghost use Rattle.journal_core.specs.Frames.{frames};
 ghost use Rattle.journal_core.specs.Region.{Leaves};
 ghost use Rattle.journal_core.specs.Kept.{IsWithin, Fits, IsOf, Keeps};
 ghost use Rattle.journal_core.specs.Scanning.{IsEmpty};
-ghost use Rattle.journal_core.specs.Outcome.{DiskAlone, Stores};
+ghost use Rattle.board_core.specs.Contents.{DiskAlone};
+ghost use Rattle.journal_core.specs.Outcome.{Stores};
 
 use crate::fault::AppendFault;
 use crate::framed::Framed;
