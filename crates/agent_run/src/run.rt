@@ -67,6 +67,7 @@ pub fn run_agent<R: Threads + Sync, B: Board>(
     ensures read_fault { result ≡ Status.ReadFault → Rose (B.faults board.old).read (B.faults board.new).read }
     ensures send_fault { result ≡ Status.SendFault → Rose (B.faults board.old).send (B.faults board.new).send }
     ensures disk_fault { result ≡ Status.DiskFault → Rose (B.faults board.old).disk (B.faults board.new).disk }
+    ensures later { (B.faults board.old).disk ≤ (B.faults board.new).disk }
     ensures extent { B.extent board.new ≡ B.extent board.old }
 {
     if !is_run(words) {

@@ -1,5 +1,6 @@
 // A configuration is written as bytes.
 ghost use Rattle.std.specs.Prelude.{◌≡◌, ◌≤◌, IfOk, length};
+ghost use Rattle.cbor_core.specs.Spelling.{Spells};
 ghost use Rattle.component_store.specs.Config.{ConfigIs, IsConfig};
 ghost use Rattle.component_store.specs.Written.{written_config};
 ghost use Rattle.trust_anchors.specs.Anchors.{AnchorsIs, written_anchors};
@@ -39,10 +40,14 @@ impl Config {
         Ok(Item::Array(parts))
     }
 
-    /// The configuration as bytes, which `read` reads back. Refused for want of memory alone.
+    /// The configuration as bytes, which `read` reads back. Its anchors are written without identifiers
+    /// of keys. Refused for want of memory alone.
     pub fn write(&self, alloc: Global) -> OrMemory<Octets>
         requires { IsConfig self.now }
-        ensures { IfOk result (ConfigIs self.now) }
+        // The bytes spell this item.
+        ensures spelled { IfOk result (λ bytes. Spells (written_config self.now) bytes) }
+        // They are read as this configuration.
+        ensures again { IfOk result (ConfigIs self.now) }
     {
         let item = self.to_item(alloc)?;
         encode(alloc, &item)
