@@ -5,3 +5,5 @@ pub mod Order
 pub mod Puts
 pub mod Fields
 pub mod Forms
+pub mod Placed
+pub mod Values

@@ -15,18 +15,18 @@ use Rattle.cbor_fields.proofs.Order.{IsPast, all_past}
 
 -- ---- putting, pair by pair
 
-put_end : (label : ℕ) (x : Item) → put label x [] ≡ labelled label x ∷ []
+pub put_end : (label : ℕ) (x : Item) → put label x [] ≡ labelled label x ∷ []
 unfolding put
 put_end label x = refl
 
 one_more : (n : ℕ) → 1 + n ≡ suc n
 one_more n = omega arith
 
-put_behind : (label : ℕ) (x : Item) (p : Pair) (ps : List Pair) → is_below label p ≡ true → put label x (p ∷ ps) ≡ p ∷ put label x ps
+pub put_behind : (label : ℕ) (x : Item) (p : Pair) (ps : List Pair) → is_below label p ≡ true → put label x (p ∷ ps) ≡ p ∷ put label x ps
 unfolding put
 put_behind label x p ps is = rw (is, one_more (prefix_len (is_below label) ps)) refl
 
-put_here : (label : ℕ) (x : Item) (p : Pair) (ps : List Pair) → is_below label p ≡ false → put label x (p ∷ ps) ≡ labelled label x ∷ p ∷ ps
+pub put_here : (label : ℕ) (x : Item) (p : Pair) (ps : List Pair) → is_below label p ≡ false → put label x (p ∷ ps) ≡ labelled label x ∷ p ∷ ps
 unfolding put
 put_here label x p ps is = rw is refl
 

@@ -9,8 +9,7 @@ use cbor_core::{Item, Pair};
 use std::alloc::Global;
 
 /// Puts the value of a field into a map's pairs, behind the first pairs whose keys are numbers below
-/// the label. Where the keys ascend, they still do, if the label is below 24 and was no key (RFC 8949,
-/// section 4.2.1). Refused for want of memory alone.
+/// the label. The place is the one that `fields_put_back` speaks of. Refused for want of memory alone.
 pub fn put_needed<V: Drop, F: Form<V>>(
     alloc: Global,
     pairs: List<Pair>,

@@ -1,5 +1,5 @@
 -- Of the items that bytes spell, one at most has a value as a row of a message.
-use Rattle.std.proofs.Common.{◌≡◌, ℕ, ◌<◌, Bool, true, false, cond, List, [], ◌∷◌, Option, Some, None, refl, sym, ap, ◌∙◌, lit<}
+use Rattle.std.proofs.Common.{◌≡◌, ℕ, Bool, true, false, cond, List, [], ◌∷◌, Option, Some, None, refl, sym, ap, ◌∙◌, lit<}
 use Rattle.std.specs.Prelude.{option_map, option_and_then}
 use Rattle.cbor_core.specs.declared.item.Item.{Item}
 use Rattle.cbor_core.specs.declared.item.Pair.{Pair}

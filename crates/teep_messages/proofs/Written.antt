@@ -6,7 +6,7 @@ use Rattle.base_types.specs.declared.memory.NoMemory.{NoMemory}
 use Rattle.cbor_core.specs.declared.item.Item.{Item}
 use Rattle.cbor_core.specs.declared.item.Pair.{Pair}
 use Rattle.cbor_core.specs.declared.item.Item.TheVariants as i
-use Rattle.cbor_core.specs.Spelling.{spelling, Spells, IsProper}
+use Rattle.cbor_core.specs.Spelling.{spelling, Spells, IsProper, HasRanges}
 use Rattle.cbor_core.specs.Views.{unsigned_of, bytes_of, text_of}
 use Rattle.cbor_fields.specs.Views.{id_of, list_of, field_of, others}
 use Rattle.cbor_fields.specs.Written.{IsSpelled, Determines, decoded, put_if}
@@ -20,8 +20,12 @@ use Rattle.teep_messages.specs.declared.message.Message.{Message}
 use Rattle.teep_messages.specs.declared.message.Message.TheVariants.{QueryRequest, QueryResponse, Update, Success, Error}
 use Rattle.teep_messages.specs.Rows.{reported_of, requested_of, suite_of, profile_of}
 use Rattle.teep_messages.specs.Options.{OptionsAre, OptionsIs}
-use Rattle.teep_messages.specs.Messages.{ItemIs, MessageIs, IsProperMessage, PartsAre, number_of}
+use Rattle.teep_messages.specs.Messages.{ItemIs, MessageIs, PartsAre, number_of}
+use Rattle.teep_messages.specs.Proper.{IsProperMessage}
+use Rattle.teep_messages.specs.Law.{MessagesAreProper, ProperAreSpelled}
 use Rattle.teep_messages.specs.Written.{unsigned, bytes, text, array, reported, requested, suite, profile, option_pairs, options_item, written}
+use Rattle.teep_messages.proofs.Seen.{item_seen}
+use Rattle.teep_messages.proofs.Kept.{fields_kept}
 use Rattle.teep_messages.proofs.Rows.{reported_determines, requested_determines, suite_determines, profile_determines}
 
 -- ---- options
@@ -120,20 +124,26 @@ message_item m b is = item_is is.0 m (respelled is.0 b is.1) is.2
 pub one_spelling : (m : Message) (a b : List ℕ) → MessageIs m a → MessageIs m b → a ≡ b
 one_spelling m a b is other = is.1.spelled ∙ ap spelling (message_item m a is ∙ sym (message_item m b other)) ∙ sym other.1.spelled
 
--- the item of a message that some bytes are is proper
-pub written_proper : (m : Message) (b : List ℕ) → MessageIs m b → IsProper (written m)
-written_proper m b is = subst IsProper (message_item m b is) is.1.proper
+-- ---- which messages are some bytes
 
--- what spells the item of a message that some bytes are is the message
-pub written_is : (m : Message) (a b : List ℕ) → MessageIs m a → Spells (written m) b → MessageIs m b
-written_is m a b is spells = (written m, spells, subst (λ (x : Item). ItemIs x m) (message_item m a is) is.2)
+pub messages_are_proper : MessagesAreProper
+messages_are_proper m b is =
+    let same : is.0 ≡ written m = message_item m b is in
+    let all = members_spelled is.0 (is.2.kind ∷ is.2.parts) (respelled is.0 b is.1) is.2.array in (
+      record { fields = fields_kept is.2.parts m all.1 is.2.parts_are; item = subst IsProper same is.1.proper },
+      subst HasRanges same is.1.ranges,
+      is.1.spelled ∙ ap spelling same,
+    )
+
+pub proper_are_spelled : ProperAreSpelled
+proper_are_spelled m proper ranges = (written m, record { proper = proper.item; ranges = ranges; spelled = refl }, item_seen m proper.fields)
 
 -- ---- what the writer answers
 
 pub answer_is : (m : Message) (x : Item) (r : Result (List ℕ) NoMemory) → IsProperMessage m → x ≡ written m → IfOk r (λ b. Spells x b) → IfOk r (λ b. MessageIs m b)
-answer_is m x (Ok b) some is spells = written_is m some.0 b some.1 (subst (λ (y : Item). Spells y b) is spells)
-answer_is m x (Err e) some is spells = tt
+answer_is m x (Ok b) proper is spells = (written m, subst (λ (y : Item). Spells y b) is spells, item_seen m proper.fields)
+answer_is m x (Err e) proper is spells = tt
 
 pub answer_one : (m : Message) (x : Item) (r : Result (List ℕ) NoMemory) → IsProperMessage m → x ≡ written m → IfOk r (λ b. Spells x b) → IfOk r (λ b. (other : List ℕ) → MessageIs m other → other ≡ b)
-answer_one m x (Ok b) some is spells = λ other is_other. one_spelling m other b is_other (answer_is m x (Ok b) some is spells)
-answer_one m x (Err e) some is spells = tt
+answer_one m x (Ok b) proper is spells = λ other is_other. one_spelling m other b is_other (answer_is m x (Ok b) proper is spells)
+answer_one m x (Err e) proper is spells = tt

@@ -59,10 +59,6 @@ pub record ItemIs (x : Item) (message : Message) : Type 0 where
 abbrev pub MessageIs : Message → List ℕ → Type 0
 MessageIs message bytes = (x : Item) × Spells x bytes × ItemIs x message
 
--- some bytes are the message
-abbrev pub IsProperMessage : Message → Type 0
-IsProperMessage message = (bytes : List ℕ) × MessageIs message bytes
-
 -- ---- what is first wrong
 
 abbrev pub wrong_four : Item → Item → Item → Item → Option MessageFault

@@ -19,6 +19,24 @@ IsSized least most (Some bytes) = (least ≤ length bytes) × (length bytes ≤ 
 abbrev pub labels : List ℕ
 labels = 2 ∷ 3 ∷ 6 ∷ 7 ∷ 8 ∷ 10 ∷ 11 ∷ 12 ∷ 13 ∷ 14 ∷ 15 ∷ 20 ∷ []
 
+-- no option at all
+abbrev pub no_options : Options
+no_options = record {
+  challenge = None;
+  versions = None;
+  selected = None;
+  evidence = None;
+  reported = None;
+  manifests = None;
+  msg = None;
+  err_msg = None;
+  evidence_format = None;
+  requested = None;
+  unneeded = None;
+  token = None;
+  other = [];
+}
+
 -- the pairs of a map are these options
 pub record OptionsAre (pairs : List Pair) (options : Options) : Type 0 where
   pub challenge : field_of bytes_of 2 pairs ≡ Some options.challenge

@@ -23,7 +23,7 @@ mod write_options;
 mod write_parts;
 
 pub use fault::MessageFault;
-pub use laws::{exactly_one, one_spelling};
+pub use laws::{exactly_one, one_spelling, proper_messages};
 pub use message::Message;
 pub use operation::{Operation, Profile, Suite};
 pub use options::Options;

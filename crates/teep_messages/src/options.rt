@@ -1,7 +1,11 @@
+ghost use Rattle.std.specs.Prelude.{◌≡◌};
+ghost use Rattle.teep_messages.specs.Options.{no_options};
+
 use crate::reported::Reported;
 use crate::requested::Requested;
 use base_types::{List, Octets, Utf8};
 use cbor_core::Pair;
+use std::alloc::Global;
 
 /// The options of a message. Every option may stand in every kind.
 #[derive(Debug, Drop, Eq, PartialEq)]
@@ -32,4 +36,27 @@ pub struct Options {
     pub token: Option<Octets>,
     /// All other labels, in ascending order of the encoded keys.
     pub other: List<Pair>,
+}
+
+impl Options {
+    /// No option at all.
+    pub fn new(alloc: Global) -> Options
+        ensures { result ≡ no_options }
+    {
+        Options {
+            challenge: None,
+            versions: None,
+            selected: None,
+            evidence: None,
+            reported: None,
+            manifests: None,
+            msg: None,
+            err_msg: None,
+            evidence_format: None,
+            requested: None,
+            unneeded: None,
+            token: None,
+            other: List::new(alloc),
+        }
+    }
 }

@@ -1,6 +1,9 @@
-use crate::{Message, MessageFault, one_spelling};
-use base_types::{Octets, OrMemory};
-use cbor_core::{Fault, Item, Why};
+ghost use Rattle.std.specs.Prelude.{IfOk};
+ghost use Rattle.teep_messages.specs.Proper.{IsProperMessage};
+
+use crate::{Message, MessageFault, Options, one_spelling, proper_messages};
+use base_types::{List, Octets, OrMemory, Utf8};
+use cbor_core::{Fault, Item, Pair, Why};
 use std::alloc::Global;
 use std::test::Fail;
 
@@ -240,5 +243,37 @@ fn messages_are_written_as_they_were_read(rt: HostRuntime) -> Result<(), Fail> {
         let again = written(alloc, bytes)?;
         assert_eq!(rt; again.as_slice(), *bytes, "row {at}");
     }
+    Ok(())
+}
+
+// The Update [3, {10: [manifest], 11: msg, 20: token, 24: null}], made by hand.
+fn made(alloc: Global, manifest: &[u8], msg: &str, token: &[u8; 8]) -> OrMemory<Message>
+    ensures { IfOk result (λ message. IsProperMessage message) }
+{
+    let mut manifests = List::new(alloc);
+    manifests.push(Octets::from_slice(alloc, manifest)?)?;
+    let mut options = Options::new(alloc);
+    options.manifests = Some(manifests);
+    options.msg = Some(Utf8::from_str(alloc, msg)?);
+    options.token = Some(Octets::from_slice(alloc, token)?);
+    options.other.push(Pair {
+        key: Item::Unsigned(24),
+        value: Item::Null,
+    })?;
+    Ok(Message::Update { options })
+}
+
+#[test]
+fn a_message_that_was_never_read_is_written(rt: HostRuntime) -> Result<(), Fail> {
+    let alloc = rt.alloc();
+    proper_messages();
+    let message = made(alloc, &[0xd0], "hi", &[1, 2, 3, 4, 5, 6, 7, 8])?;
+    let bytes = message.write(alloc)?;
+    let want = [
+        0x82, 0x03, 0xa4, 0x0a, 0x81, 0x41, 0xd0, 0x0b, 0x62, 0x68, 0x69, 0x14, 0x48, 1, 2, 3, 4,
+        5, 6, 7, 8, 0x18, 0x18, 0xf6,
+    ];
+    assert_eq!(rt; bytes.as_slice(), want.as_slice());
+    assert!(rt; Message::read(alloc, &want)? == message);
     Ok(())
 }

@@ -1,10 +1,10 @@
 use Rattle.std.proofs.Common.{sym, subst}
 use Rattle.cbor_core.specs.Spelling.{IsProper}
-use Rattle.teep_messages.proofs.Written.{written_proper, answer_is, answer_one}
+use Rattle.teep_messages.proofs.Written.{answer_is, answer_one}
 use Rattle.teep_messages.proofs.message.Message.write.Goals as goal
 
 pub encode-requires : goal.encode-requires
-encode-requires c = subst IsProper (sym c.in_ok-item.ensures) (written_proper c.args.self.now c.requires.0 c.requires.1)
+encode-requires c = subst IsProper (sym c.in_ok-item.ensures) c.requires.item
 
 pub returns-clause-is : goal.returns-clause-is
 returns-clause-is c = answer_is c.args.self.now c.in_ok-item.item c.encode.result c.requires c.in_ok-item.ensures c.encode.ensures
