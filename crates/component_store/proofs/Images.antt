@@ -1,8 +1,8 @@
 -- What an image says of its device.
-use Rattle.std.proofs.Common.{◌≡◌, ◌≤◌, ◌<◌, ◌+◌, ◌-◌, ◌^◌, ℕ, List, [], ◌∷◌, ◌++◌, length, take, drop, codes, replicate, refl, sym, ap, subst, ◌∙◌, arith}
+use Rattle.std.proofs.Common.{◌≡◌, ◌≤◌, ◌<◌, ◌+◌, ◌-◌, ◌^◌, ℕ, List, ◌++◌, length, take, drop, codes, replicate, refl, sym, ap, subst, ◌∙◌, arith}
 use Rattle.std.specs.Int.{to_be_bytes, from_be_bytes, w32}
 use Rattle.std.proofs.lemmas.Nat.{from_be_bytes-to_be_bytes_4}
-use Rattle.std.proofs.lemmas.List.{length-append, take-append-drop, length-replicate, take_at, drop_at}
+use Rattle.std.proofs.lemmas.List.{length-append, take-append-drop, length-replicate, take_at}
 use Rattle.component_store.specs.declared.config.Config.{Config}
 use Rattle.component_store.specs.declared.config.TheConstants.{CONFIG_LIMIT}
 use Rattle.component_store.specs.Config.{ConfigIs}

@@ -1,9 +1,8 @@
 -- Bytes are one configuration at most, and the reader finds it.
-use Rattle.std.proofs.Common.{◌≡◌, ◌≤◌, ◌<◌, ◌^◌, ℕ, List, [], ◌∷◌, length, Option, None, Some, Result, Ok, Err, refl, sym, ap, subst, ◌∙◌, inl, inr, arith}
+use Rattle.std.proofs.Common.{◌≡◌, ◌≤◌, ℕ, List, [], ◌∷◌, length, Option, Some, Result, Ok, Err, ap, subst, ◌∙◌}
 use Rattle.std.specs.Prelude.{IfOk}
 use Rattle.cbor_core.specs.declared.item.Item.{Item}
 use Rattle.cbor_core.specs.Spelling.{Spells}
-use Rattle.cbor_core.specs.Views.{array_of, bytes_of, unsigned_of}
 use Rattle.cbor_core.proofs.Inputs.{one_for_one}
 use Rattle.evidence.specs.declared.ids.DeviceIds.{DeviceIds}
 use Rattle.hss_sign.specs.declared.params.KeyParams.{KeyParams}
@@ -14,7 +13,7 @@ use Rattle.component_store.specs.declared.config.Config.{Config}
 use Rattle.component_store.specs.declared.config.TheConstants.{CONFIG_LIMIT}
 use Rattle.component_store.specs.declared.fault.ConfigFault.{ConfigFault}
 use Rattle.component_store.specs.declared.fault.ConfigFault.TheVariants as faults
-use Rattle.component_store.specs.Config.{IdsAre, QuotaIs, ParamsAre, SeedIs, AnchorsAre, RowsAre, PartsAre, IsConfigItem, ConfigIs}
+use Rattle.component_store.specs.Config.{IdsAre, ParamsAre, AnchorsAre, RowsAre, PartsAre, IsConfigItem, ConfigIs}
 use Rattle.component_store.specs.Answers.{Answers, IsFound, fault_of}
 use Rattle.trust_anchors.specs.declared.fault.AnchorFault.{AnchorFault}
 use Rattle.trust_anchors.specs.declared.fault.AnchorFault.TheVariants as anchors

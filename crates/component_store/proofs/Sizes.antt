@@ -1,13 +1,12 @@
 -- What is written for a configuration has room in the head of an image.
-use Rattle.std.proofs.Common.{◌≡◌, ℕ, zero, suc, ◌+◌, ◌*◌, ◌<◌, ◌≤◌, ◌^◌, List, [], ◌∷◌, ◌++◌, length, map, refl, sym, ◌∙◌, ap, arith, inl, inr}
+use Rattle.std.proofs.Common.{◌≡◌, ℕ, ◌+◌, ◌*◌, ◌≤◌, List, [], ◌∷◌, ◌++◌, length, map, ◌∙◌, ap, arith}
 use Rattle.std.specs.Prelude.{None}
 use Rattle.std.specs.List.{AllZip}
-use Rattle.std.proofs.lemmas.Bool.{cases_lt}
 use Rattle.std.proofs.lemmas.List.{length-append}
 use Rattle.cbor_core.specs.declared.item.Item.{Item}
 use Rattle.cbor_core.specs.declared.item.Item.TheVariants as i
-use Rattle.cbor_core.specs.Spelling.{head, spelling, spellings, pair_spelling, pair_spellings}
-use Rattle.cbor_core.proofs.Spell.{spelling_Unsigned, spelling_Negative, spelling_Bytes, spelling_Array, spelling_Map, pair_spelling_out}
+use Rattle.cbor_core.specs.Spelling.{head, spelling, spellings}
+use Rattle.cbor_core.proofs.Spell.{spelling_Unsigned, spelling_Negative, spelling_Bytes, spelling_Map, pair_spelling_out}
 use Rattle.cbor_core.proofs.Sizes.{head_size, number_size, string_size, array_size}
 use Rattle.lms_core.proofs.Keys.{fields_at}
 use Rattle.lms_core.specs.Bytes.{u32_bytes}

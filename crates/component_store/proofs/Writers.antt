@@ -1,5 +1,5 @@
 -- What is written for a configuration is proper, and is that configuration.
-use Rattle.std.proofs.Common.{◌≡◌, ◌≤◌, ℕ, zero, suc, List, [], ◌∷◌, length, map, Result, Ok, Err, refl, sym, ap, subst, ◌∙◌, arith}
+use Rattle.std.proofs.Common.{◌≤◌, ℕ, zero, suc, List, [], ◌∷◌, length, map, Result, Ok, Err, refl, sym, subst}
 use Rattle.std.specs.Prelude.{IfOk, None}
 use Rattle.std.specs.List.{AllByRecursion}
 use Rattle.base_types.specs.declared.memory.NoMemory.{NoMemory}

@@ -1,5 +1,5 @@
 -- What the parts of the readers answer.
-use Rattle.std.specs.Prelude.{◌≡◌, ◌<◌, ◌^◌, ℕ, List, Option, Some, None, Result, Ok, Err}
+use Rattle.std.specs.Prelude.{◌≡◌, ◌<◌, ◌^◌, ℕ, Option, Some, None, Result, Ok, Err}
 use Rattle.cbor_core.specs.declared.item.Item.{Item}
 use Rattle.cbor_core.specs.Views.{unsigned_of}
 use Rattle.component_store.specs.declared.config.Config.{Config}

@@ -1,5 +1,5 @@
 -- The configuration of a device: which bytes are one.
-use Rattle.std.specs.Prelude.{◌≡◌, ◌≤◌, ℕ, List, [], ◌∷◌, length, Option, Some, Result, Ok, Err}
+use Rattle.std.specs.Prelude.{◌≡◌, ◌≤◌, ℕ, List, [], ◌∷◌, length, Some}
 use Rattle.base_types.specs.declared.limits.TheConstants.{QUOTA_LEAST, QUOTA_LIMIT}
 use Rattle.cbor_core.specs.declared.item.Item.{Item}
 use Rattle.cbor_core.specs.Spelling.{Spells}

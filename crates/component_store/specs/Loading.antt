@@ -1,5 +1,5 @@
 -- What a look at an image answers.
-use Rattle.std.specs.Prelude.{◌≡◌, ℕ, List, Result, Ok, Err}
+use Rattle.std.specs.Prelude.{ℕ, List, Result, Ok, Err}
 use Rattle.component_store.specs.declared.config.Config.{Config}
 use Rattle.component_store.specs.declared.fault.MountFault.{MountFault}
 use Rattle.component_store.specs.declared.fault.MountFault.TheVariants.{BadImage, DiskFault, NoMemory}
