@@ -1,5 +1,5 @@
 -- What a run leaves whose image was loaded first.
-use Rattle.std.proofs.Common.{◌≡◌, ◌+◌, ◌++◌, ℕ, List, [], length, refl, sym, ◌∙◌, ap, subst, inl, inr, arith}
+use Rattle.std.proofs.Common.{◌+◌, ℕ, List, [], length, refl, sym, ◌∙◌, ap, subst, inl, arith}
 use Rattle.std.proofs.lemmas.List.{append-nil}
 use Rattle.std.proofs.lemmas.List.Elements.{All-nil}
 use Rattle.board_core.specs.Contents.{Contents, Same}
@@ -9,7 +9,7 @@ use Rattle.component_store.specs.Image.{IsImage}
 use Rattle.component_store.proofs.Images.{one_image}
 use Rattle.agent_run.specs.Reading.{IsFrame}
 use Rattle.agent_run.specs.Filling.{SameImage}
-use Rattle.agent_run.specs.Outcome.{Ran, Outcome, TakenAnswered}
+use Rattle.agent_run.specs.Outcome.{Ran, Outcome}
 use Rattle.agent_run.specs.declared.status.Status.{Status}
 use Rattle.agent_run.specs.declared.status.Status.TheVariants as statuses
 use Rattle.agent_run.proofs.Pieces.{image_both}

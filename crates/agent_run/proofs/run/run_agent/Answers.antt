@@ -1,4 +1,4 @@
-use Rattle.std.proofs.Common.{◌≡◌, ◌∙◌, ℕ, Err, lit<, subst, sym}
+use Rattle.std.proofs.Common.{ℕ, Err, lit<, subst, sym}
 use Rattle.base_types.specs.declared.limits.TheConstants.{FRAME_IN_LIMIT, INPUT_LIMIT}
 use Rattle.base_types.specs.Causes.{Rose}
 use Rattle.component_store.specs.declared.config.Config.{Config}
