@@ -1,10 +1,10 @@
 -- Bytes are one envelope at most, and none that is refused.
-use Rattle.std.proofs.Common.{◌≡◌, ◌⊎◌, ℕ, List, Result, Ok, refl, inl, inr}
+use Rattle.std.proofs.Common.{◌≡◌, ◌⊎◌, ℕ, List, Ok, inl, inr}
 use Rattle.cbor_core.specs.declared.item.Item.{Item}
 use Rattle.cbor_core.specs.Spelling.{Spells}
 use Rattle.cose_core.specs.declared.sign1.Sign1.{Sign1}
 use Rattle.cose_core.specs.declared.fault.CoseFault.{CoseFault}
-use Rattle.cose_core.specs.Sign1.{HasForm, Sign1Is, RefusedAs, untagged, tagged}
+use Rattle.cose_core.specs.Sign1.{Sign1Is, RefusedAs, untagged, tagged}
 use Rattle.cose_core.specs.Reading.{ReadAs}
 use Rattle.cose_core.proofs.Forms.{form_at}
 use Rattle.cose_core.proofs.Sign1s.{is_only, is_refused}

@@ -1,3 +1,4 @@
 pub mod Envelopes
 pub mod OneReply
+pub mod Proper
 pub mod Sizes

@@ -4,17 +4,18 @@ use Rattle.std.specs.Prelude.{Option, Some, None}
 use Rattle.teep_messages.specs.declared.message.Message.{Message as TeepMessage}
 use Rattle.teep_messages.specs.declared.message.Message.TheVariants as kinds
 use Rattle.teep_messages.proofs.Exact.{one_message, not_both}
+use Rattle.teep_messages.proofs.Written.{one_spelling}
 use Rattle.agent_core.specs.Frames.{Frame}
 use Rattle.cose_core.specs.declared.sign1.Sign1.{Sign1}
 use Rattle.trust_anchors.specs.declared.anchors.Anchors.{Anchors}
-use Rattle.agent_core.specs.Answers.{Answers, AnswersBytes, AnswersMessage, AnswersToken, RefusesBytes, AnswersSigned, RefusesUnsigned, AnswersContent, AnswersEnvelope, RefusesEnvelope, Replies}
+use Rattle.agent_core.specs.Answers.{message_frame, response, Answers, AnswersBytes, AnswersMessage, AnswersToken, RefusesBytes, AnswersSigned, RefusesUnsigned, AnswersContent, AnswersEnvelope, RefusesEnvelope, Replies}
 use Rattle.agent_core.proofs.Envelopes.{one_envelope, not_refused}
 use Rattle.agent_core.specs.declared.event.Event.{Event}
 use Rattle.agent_core.specs.declared.event.Event.TheVariants.{Message, Payload, FetchFailed, Strange}
 
 by_token : (token : Option (List ℕ)) (reply other : Frame) → AnswersToken token reply → AnswersToken token other → reply ≡ other
 by_token None reply other a b = a ∙ sym b
-by_token (Some token) reply other a b = a ∙ sym b
+by_token (Some token) reply other a b = a.2 ∙ ap message_frame (one_spelling (response token) a.0 b.0 a.1 b.1) ∙ sym b.2
 
 by_message : (message : TeepMessage) (reply other : Frame) → AnswersMessage message reply → AnswersMessage message other → reply ≡ other
 by_message (kinds.QueryRequest options suites profiles items) reply other a b = by_token options.token reply other a b

@@ -1,12 +1,10 @@
 -- The reply to an event.
-use Rattle.std.specs.Prelude.{◌≡◌, ◌≤◌, ◌⊎◌, length, List, [], ◌∷◌, ℕ, Option, Some, None}
-use Rattle.cbor_core.specs.declared.item.Item.{Item}
-use Rattle.cbor_core.specs.declared.item.Item.TheVariants as i
-use Rattle.cbor_core.specs.declared.item.Pair.{Pair}
-use Rattle.cbor_core.specs.Spelling.{spelling}
+use Rattle.std.specs.Prelude.{◌≡◌, ◌⊎◌, List, [], ◌∷◌, ℕ, Option, Some, None}
+use Rattle.base_types.specs.declared.limits.TheConstants.{TOKEN_LEAST, TOKEN_LIMIT}
 use Rattle.teep_messages.specs.declared.message.Message.TheVariants as kinds
 use Rattle.teep_messages.specs.declared.message.Message.{Message as TeepMessage}
 use Rattle.teep_messages.specs.declared.fault.MessageFault.{MessageFault}
+use Rattle.teep_messages.specs.Options.{IsSized, no_options}
 use Rattle.teep_messages.specs.Messages.{MessageIs, RefusedAs}
 use Rattle.cose_core.specs.declared.sign1.Sign1.{Sign1}
 use Rattle.cose_core.specs.declared.fault.CoseFault.{CoseFault}
@@ -30,30 +28,23 @@ message_frame body = record { kind = 0x81; body = body }
 abbrev pub refusal_frame : Refusal → Frame
 refusal_frame refusal = record { kind = 0x82; body = number_of refusal ∷ [] }
 
--- {6: 0, 20: token}: version 0 is selected, and the token of the question comes back
-abbrev pub response_pairs : List ℕ → List Pair
-response_pairs token =
-    record { key = i.Unsigned 6; value = i.Unsigned 0 }
-    ∷ record { key = i.Unsigned 20; value = i.Bytes token }
-    ∷ []
+-- the QueryResponse in which version 0 is selected, the token of the question comes back, and nothing else stands
+abbrev pub response : List ℕ → TeepMessage
+response token = kinds.QueryResponse (record no_options { selected = Some 0; token = Some token })
 
--- the QueryResponse [2, {6: 0, 20: token}]
-abbrev pub response_item : List ℕ → Item
-response_item token = i.Array (i.Unsigned 2 ∷ i.Map (response_pairs token) ∷ [])
+-- the reply carries bytes that are the message
+abbrev pub IsReply : TeepMessage → Frame → Type 0
+IsReply message reply = (body : List ℕ) × MessageIs message body × (reply ≡ message_frame body)
 
 -- a question with a token is answered by the response with it; one without is refused
 abbrev pub AnswersToken : Option (List ℕ) → Frame → Type 0
-AnswersToken (Some token) reply = reply ≡ message_frame (spelling (response_item token))
+AnswersToken (Some token) reply = IsReply (response token) reply
 AnswersToken None reply = reply ≡ refusal_frame NotMessage
 
--- a token that is there has 64 bytes at most
-abbrev pub IsShort : Option (List ℕ) → Type 0
-IsShort None = Unit {0}
-IsShort (Some token) = length token ≤ 64
-
-abbrev pub HasShortToken : TeepMessage → Type 0
-HasShortToken (kinds.QueryRequest options suites profiles items) = IsShort options.token
-HasShortToken _ = Unit {0}
+-- a token that a question has is of 8 to 64 bytes
+abbrev pub HasSizedToken : TeepMessage → Type 0
+HasSizedToken (kinds.QueryRequest options suites profiles items) = IsSized TOKEN_LEAST TOKEN_LIMIT options.token
+HasSizedToken _ = Unit {0}
 
 -- every message but a question is refused as not for an agent
 abbrev pub AnswersMessage : TeepMessage → Frame → Type 0

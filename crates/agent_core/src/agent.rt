@@ -1,5 +1,5 @@
 ghost use Rattle.std.specs.Prelude.{◌≡◌, IfOk};
-ghost use Rattle.agent_core.specs.Answers.{Answers, AnswersContent, AnswersPayload, AnswersMessage, HasShortToken, OneReply, refusal_frame};
+ghost use Rattle.agent_core.specs.Answers.{Answers, AnswersContent, AnswersPayload, AnswersMessage, HasSizedToken, OneReply, refusal_frame};
 ghost use Rattle.agent_core.specs.Replies.{frame_of};
 
 use crate::event::Event;
@@ -97,9 +97,9 @@ fn answer_payload(alloc: Global, payload: &[u8]) -> Result<Reply, AgentFault>
     }
 }
 
-// The reply to a message, whose token is short enough for a frame.
+// The reply to a message, whose token has its size.
 fn answer(alloc: Global, message: &Message) -> OrMemory<Reply>
-    requires { HasShortToken message.now }
+    requires { HasSizedToken message.now }
     ensures { IfOk result (λ reply. AnswersMessage message.now (frame_of reply)) }
 {
     match message {
