@@ -5,7 +5,7 @@ ghost use Rattle.agent_run.specs.Nexts.{Nexts, Bodies, Grows, IsReadFault};
 ghost use Rattle.agent_run.specs.Filling.{TookSome};
 
 use crate::fill::{Fill, fill_from};
-use base_types::{FRAME_IN_LIMIT, INPUT_LIMIT, Octets, OrMemory, number_of};
+use base_types::{FRAME_IN_LIMIT, INPUT_LIMIT, Octets, OrMemory, u32_from_be_bytes};
 use board_core::Board;
 use std::alloc::Global;
 
@@ -55,7 +55,7 @@ pub fn next_frame<B: Board>(alloc: Global, board: &mut B, taken: &mut u64) -> Ne
         Fill::Failed(_) => return Next::ReadFault,
     }
     let [kind, a, b, c, d] = head;
-    let size = number_of(a, b, c, d) as usize;
+    let size = u32_from_be_bytes(a, b, c, d) as usize;
     if size > FRAME_IN_LIMIT {
         return Next::Long;
     }

@@ -6,6 +6,7 @@
 #![tactic(auto)]
 
 mod boxed;
+mod buffer;
 mod failed;
 mod limits;
 mod list;
@@ -17,6 +18,7 @@ mod tests;
 mod text;
 
 pub use boxed::Boxed;
+pub use buffer::zeros;
 pub use failed::Failed;
 pub use limits::{
     ANCHORS_LIMIT, ATTACHED_LIMIT, CATALOGUE_DEVICES_LIMIT, CATALOGUE_ENTRIES_LIMIT,
@@ -29,6 +31,6 @@ pub use limits::{
 };
 pub use list::List;
 pub use memory::{NoMemory, OrMemory};
-pub use number::number_of;
+pub use number::u32_from_be_bytes;
 pub use octets::Octets;
 pub use text::Utf8;

@@ -22,7 +22,7 @@ pub const POST_RESPONSE_LIMIT: u64 = 1 << 21;
 pub const GET_RESPONSE_LIMIT: u64 = PAYLOAD_LIMIT as u64;
 
 /// The longest payload, in bytes.
-pub const PAYLOAD_LIMIT: usize = 1 << 20;
+pub const PAYLOAD_LIMIT: usize = 1 << 23;
 
 /// The longest payload attached to an envelope, in bytes.
 pub const ATTACHED_LIMIT: usize = PAYLOAD_LIMIT;

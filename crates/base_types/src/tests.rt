@@ -1,4 +1,4 @@
-use crate::{Boxed, List, Octets, Utf8, number_of};
+use crate::{Boxed, List, Octets, Utf8, u32_from_be_bytes, zeros};
 use std::test::Fail;
 
 /// A type that holds itself through a list and a box.
@@ -91,8 +91,15 @@ fn faults_say_what_they_are(rt: HostRuntime) -> Result<(), Fail> {
 
 #[test]
 fn four_bytes_are_a_number(rt: HostRuntime) -> Result<(), Fail> {
-    assert_eq!(rt; number_of(0, 0, 0, 0), 0);
-    assert_eq!(rt; number_of(0x12, 0x34, 0x56, 0x78), 0x1234_5678);
-    assert_eq!(rt; number_of(255, 255, 255, 255), u32::MAX);
+    assert_eq!(rt; u32_from_be_bytes(0, 0, 0, 0), 0);
+    assert_eq!(rt; u32_from_be_bytes(0x12, 0x34, 0x56, 0x78), 0x1234_5678);
+    assert_eq!(rt; u32_from_be_bytes(255, 255, 255, 255), u32::MAX);
+    Ok(())
+}
+
+#[test]
+fn a_buffer_of_zeros(rt: HostRuntime) -> Result<(), Fail> {
+    let buffer = zeros(rt.alloc(), 3)?;
+    assert_eq!(rt; buffer.as_slice(), [0, 0, 0].as_slice());
     Ok(())
 }
