@@ -1,5 +1,5 @@
 -- Parts of bytes are bytes.
-use Rattle.std.proofs.Common.{ℕ, suc, ◌+◌, ◌<◌, List, ◌∷◌, take, drop, length, arith, inl, inr}
+use Rattle.std.proofs.Common.{ℕ, suc, ◌+◌, List, ◌∷◌, take, drop, arith, inl, inr}
 use Rattle.std.proofs.lemmas.Bool.{cases_lt}
 use Rattle.std.proofs.lemmas.List.{length-take, get_or-drop, get_or-take, get_or_past}
 use Rattle.base_types.specs.Bytes.{IsBytes}
