@@ -3,9 +3,10 @@ use Rattle.std.proofs.Common.{◌≡◌, ℕ, ◌+◌, ◌<◌, ◌≤◌, ◌^�
 use Rattle.std.specs.Prelude.{Some}
 use Rattle.std.proofs.lemmas.List.{length-append}
 use Rattle.base_types.specs.declared.limits.TheConstants.{TOKEN_LEAST, TOKEN_LIMIT}
-use Rattle.cbor_core.specs.Spelling.{head, spelling}
-use Rattle.cbor_core.proofs.Spell.{spelling_Unsigned, spelling_Bytes, spelling_Array, spelling_Map, pair_spelling_out}
-use Rattle.cbor_core.proofs.Sizes.{head_size}
+use Rattle.cbor_heads.specs.Head.{head}
+use Rattle.cbor_core.specs.Spelling.{spelling}
+use Rattle.cbor_core.proofs.Public.Spell.{spelling_Unsigned, spelling_Bytes, spelling_Array, spelling_Map, pair_spelling_out}
+use Rattle.cbor_heads.proofs.Public.Sizes.{head_size}
 use Rattle.teep_messages.specs.Messages.{MessageIs}
 use Rattle.teep_messages.specs.Options.{IsSized}
 use Rattle.teep_messages.proofs.Written.{messages_are_proper}

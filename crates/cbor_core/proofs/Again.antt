@@ -1,4 +1,5 @@
 -- What is spelled so is read.
+use Rattle.cbor_heads.specs.declared.fault.Fault.{Fault}
 use Rattle.std.proofs.Common.{◌≡◌, ℕ, zero, suc, ◌+◌, ◌-◌, ◌^◌, ◌<◌, Bool, true, false, List, [], ◌∷◌, ◌++◌, length, Option, Some, None, Ok, refl, sym, ap, subst, ◌∙◌, append_assoc, arith, lit≤, lit<}
 use Rattle.std.specs.Prelude.{nat_lt}
 use Rattle.std.specs.List.{AllByRecursion}
@@ -12,22 +13,23 @@ use Rattle.cbor_core.specs.declared.item.Item.TheOpen.{Item-F}
 use Rattle.cbor_core.specs.declared.item.Item.TheViews.{roll-Item, roll-out-Item}
 use Rattle.cbor_core.specs.declared.item.Item.TheVariants as i
 use Rattle.cbor_core.specs.declared.item.Pair.{Pair}
-use Rattle.cbor_core.specs.Place.{Place}
-use Rattle.cbor_core.specs.Faulty.{behind}
-use Rattle.cbor_core.specs.Spelling.{head, spelling, spellings, pair_spelling, pair_spellings, KeysAscend, IsSpellable}
-use Rattle.cbor_core.specs.Reading.{Reader, kind_of, part, items_at, pairs_at, between, content, item_by, item_at}
-use Rattle.cbor_core.proofs.Spell.{spelling_Unsigned, spelling_Negative, spelling_Bytes, spelling_Text, spelling_Array, spelling_Map, spelling_Tag, spelling_Truth, spelling_Null, pair_spelling_out}
-use Rattle.cbor_core.proofs.Heads.{IsHead, head_again, head_short}
-use Rattle.cbor_core.proofs.Levels.{IsWholeBy, from_spellable}
+use Rattle.cbor_heads.specs.Place.{Place, behind, between}
+use Rattle.cbor_heads.specs.Head.{head, kind_of}
+use Rattle.cbor_core.specs.Spelling.{spelling, spellings, pair_spelling, pair_spellings, KeysAscend, IsSpellable}
+use Rattle.cbor_heads.specs.Reading.{Reader, nested}
+use Rattle.cbor_core.specs.Reading.{part, items_at, pairs_at, content, item_by, item_at}
+use Rattle.cbor_core.proofs.Public.Spell.{spelling_Unsigned, spelling_Negative, spelling_Bytes, spelling_Text, spelling_Array, spelling_Map, spelling_Tag, spelling_Truth, spelling_Null, pair_spelling_out}
+use Rattle.cbor_heads.proofs.Public.Heads.{IsHead, head_again, head_short}
+use Rattle.cbor_core.proofs.Public.Levels.{IsWholeBy, from_spellable}
 
-abbrev pub ReadsAgain : Reader Item → Item → Type 0
+abbrev pub ReadsAgain : Reader Fault Item → Item → Type 0
 ReadsAgain inner x = (before : ℕ) (more : List ℕ) → inner (record { at = before; rest = spelling x ++ more }) ≡ Ok (x, behind before (spelling x) more)
 
 pub behind-append : (before : ℕ) (a b more : List ℕ) → behind (before + length a) b more ≡ behind before (a ++ b) more
 behind-append before a b more = let e : before + length a + length b ≡ before + length (a ++ b) = omega (arith, length-append a b) in ap (λ (n : ℕ). record { at = n; rest = more }) e
 
 -- a head, and then what it announces
-step : (inner : Option (Reader Item)) (major n before : ℕ) (text more : List ℕ) (x : Item) → IsHead major n → spelling x ≡ head major n ++ text
+step : (inner : Option (Reader Fault Item)) (major n before : ℕ) (text more : List ℕ) (x : Item) → IsHead major n → spelling x ≡ head major n ++ text
     → content inner before (kind_of major) n (record { at = before + length (head major n); rest = text ++ more }) ≡ Ok (x, behind (before + length (head major n)) text more)
     → item_by inner (record { at = before; rest = spelling x ++ more }) ≡ Ok (x, behind before (spelling x) more)
 step inner major n before text more x h is read =
@@ -37,7 +39,7 @@ step inner major n before text more x h is read =
     ap (λ (t : List ℕ). item_by inner (record { at = before; rest = t })) bytes ∙ one ∙ ap (λ (q : Place). Ok (x, q)) place
 
 -- a head alone
-step_only : (inner : Option (Reader Item)) (major n : ℕ) (x : Item) → IsHead major n → spelling x ≡ head major n
+step_only : (inner : Option (Reader Fault Item)) (major n : ℕ) (x : Item) → IsHead major n → spelling x ≡ head major n
     → ((before : ℕ) (q : Place) → content inner before (kind_of major) n q ≡ Ok (x, q)) → ReadsAgain (item_by inner) x
 step_only inner major n x h is read before more =
     let q : Place = record { at = before + length (head major n); rest = more } in
@@ -53,7 +55,7 @@ part_again at before text more =
     let room : nat_lt (length (text ++ more)) (length text) ≡ false = le-ltb _ _ (omega (arith, length-append text more)) in
     rw (room, take_at text more (length text) refl, drop_at text more (length text) refl) refl
 
-module _ (inner : Option (Reader Item)) where
+module _ (inner : Option (Reader Fault Item)) where
   unsigned_again : (n : ℕ) → n < 2 ^ 64 → ReadsAgain (item_by inner) (i.Unsigned n)
   unsigned_again n lt = step_only inner 0 n (i.Unsigned n) (plain 0 n (lit< tt) lt) (spelling_Unsigned n) (λ b q. refl)
 
@@ -75,7 +77,7 @@ module _ (inner : Option (Reader Item)) where
   null_again : ReadsAgain (item_by inner) i.Null
   null_again = step_only inner 7 22 i.Null (record { below = lit< tt; simple = λ e. (lit≤ tt, lit≤ tt) }) (spelling_Null ∙ sym (head_short 7 22 (lit< tt))) (λ b q. refl)
 
-module _ (inner : Reader Item) (P : Item → Type 0) (law : (x : Item) → P x → ReadsAgain inner x) where
+module _ (inner : Reader Fault Item) (P : Item → Type 0) (law : (x : Item) → P x → ReadsAgain inner x) where
   pub items_again : (xs found : List Item) (before : ℕ) (more : List ℕ) → AllByRecursion P xs
       → items_at inner (length xs) found (record { at = before; rest = spellings xs ++ more }) ≡ Ok (found ++ xs, behind before (spellings xs) more)
   unfolding items_at
@@ -156,6 +158,6 @@ leaf_again Item-F.Null h = subst (ReadsAgain (item_by None)) (sym i.rolls-Null) 
 
 -- what is spelled so is read, whatever follows it
 pub item_again : (d : ℕ) (x : Item) → IsSpellable d x → ReadsAgain (item_at d) x
-unfolding item_at
+unfolding nested
 item_again zero x h = subst (ReadsAgain (item_by None)) (roll-out-Item x) (leaf_again (out-Item x) (from_spellable zero x h))
 item_again (suc d) x h = subst (ReadsAgain (item_by (Some (item_at d)))) (roll-out-Item x) (by_layer (item_at d) (IsSpellable d) (item_again d) (out-Item x) (from_spellable (suc d) x h))

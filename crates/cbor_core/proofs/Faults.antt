@@ -8,41 +8,35 @@ use Rattle.std.proofs.lemmas.List.Concat.{flat_map-cons}
 use Rattle.cbor_core.specs.declared.item.Item.{Item}
 use Rattle.cbor_core.specs.declared.item.Item.TheVariants as i
 use Rattle.cbor_core.specs.declared.item.Pair.{Pair}
-use Rattle.cbor_core.specs.declared.fault.Fault.{Fault}
-use Rattle.cbor_core.specs.declared.fault.Why.{Why}
-use Rattle.cbor_core.specs.declared.fault.Why.TheVariants as why
-use Rattle.cbor_core.specs.declared.head.Kind.{Kind}
-use Rattle.cbor_core.specs.declared.head.Kind.TheVariants as k
-use Rattle.cbor_core.specs.declared.head.Head.{Head}
-use Rattle.cbor_core.specs.Place.{Place, skip}
-use Rattle.cbor_core.specs.Spelling.{spelling, spellings, pair_spelling, pair_spellings, bytes_below, IsBytes, IsSpellable}
-use Rattle.cbor_core.specs.Reading.{Outcome, Reader, ◌>>=◌, fault, head_at, head_by, head_with, argument_at, part, text_by, bytes_at, text_at, items_at, pairs_at, between, content, item_at}
-use Rattle.cbor_core.specs.Faulty.{behind, last_key, ArrayFault, AfterKey, MapFault, PartFault, FaultyBy, Faulty}
+use Rattle.cbor_heads.specs.declared.fault.Fault.{Fault}
+use Rattle.cbor_heads.specs.declared.fault.Why.{Why}
+use Rattle.cbor_heads.specs.declared.fault.Why.TheVariants as why
+use Rattle.cbor_heads.specs.declared.head.Kind.{Kind}
+use Rattle.cbor_heads.specs.declared.head.Kind.TheVariants as k
+use Rattle.cbor_heads.specs.declared.head.Head.{Head}
+use Rattle.cbor_heads.specs.Place.{Place, skip, between, behind}
+use Rattle.cbor_core.specs.Spelling.{spelling, spellings, pair_spelling, pair_spellings, bytes_below, IsSpellable}
+use Rattle.base_types.specs.Bytes.{IsBytes}
+use Rattle.cbor_heads.specs.Reading.{Outcome, Reader, ◌>>=◌, nested}
+use Rattle.cbor_heads.specs.HeadReading.{fault, head_at, head_by, head_with, argument_at}
+use Rattle.cbor_core.specs.Reading.{part, text_by, bytes_at, text_at, items_at, pairs_at, content, item_at}
+use Rattle.cbor_core.specs.Faulty.{last_key, ArrayFault, AfterKey, MapFault, PartFault, FaultyBy, Faulty}
 use Rattle.cbor_core.specs.Table.{body_rule, table}
 use Rattle.cbor_core.proofs.Tables.{first_rule-table, part_out}
-use Rattle.cbor_core.proofs.Spell.{pair_spelling_out}
-use Rattle.cbor_core.proofs.Heads.{chosen, passed, ok_is, done, failed, Took}
-use Rattle.cbor_core.proofs.Items.{TakesBy, kind_takes, between_is, item_takes}
+use Rattle.cbor_core.proofs.Public.Spell.{pair_spelling_out}
+use Rattle.cbor_heads.proofs.Public.Outcomes.{chosen, passed, ok_is, done, failed, bind_err, err_is, not_err}
+use Rattle.cbor_heads.proofs.Public.Heads.{Took}
+use Rattle.cbor_core.proofs.Items.{TakesBy, between_is, item_takes}
+use Rattle.cbor_heads.proofs.Public.Kinds.{kind_takes}
 use Rattle.cbor_core.proofs.Again.{behind-append}
-
-pub not_err : {A : Type 0} (x : A) (f : Fault) → done x ≡ Err f → ⊥
-not_err x f e = cc
-
-pub err_is : {A : Type 0} (f g : Fault) → failed {A = A} f ≡ Err g → f ≡ g
-err_is f g e = cc
-
--- which step failed
-pub bind_err : {A B : Type 0} (r : Outcome A) (f : A × Place → Outcome B) (g : Fault) → (r >>= f) ≡ Err g → (r ≡ Err g) ⊎ ((x : A × Place) × (r ≡ Ok x) × (f x ≡ Err g))
-bind_err (Ok x) f g e = inr (x, refl, e)
-bind_err (Err d) f g e = inl (let h : failed d ≡ Err g = e in ap (λ (y : Fault). Err y) (err_is d g h))
 
 -- ---- the place of a head's fault
 
-abbrev IsFaultAt : {A : Type 0} → ℕ → Outcome A → Type 0
+abbrev IsFaultAt : {A : Type 0} → ℕ → Outcome Fault A → Type 0
 IsFaultAt at (Ok x) = Unit {0}
 IsFaultAt at (Err f) = f.at ≡ at
 
-by_test : {A : Type 0} (at : ℕ) (b : Bool) (x y : Outcome A) → IsFaultAt at x → IsFaultAt at y → IsFaultAt at (cond b x y)
+by_test : {A : Type 0} (at : ℕ) (b : Bool) (x y : Outcome Fault A) → IsFaultAt at x → IsFaultAt at y → IsFaultAt at (cond b x y)
 by_test at true x y hx hy = hx
 by_test at false x y hx hy = hy
 
@@ -68,7 +62,7 @@ head_fault p f e = subst (IsFaultAt p.at) e (by_fault p.at p.rest)
 -- ---- members
 
 -- what a reader refuses is faulty
-abbrev pub RefusesBy : Reader Item → (Place → Fault → Type 0) → Type 0
+abbrev pub RefusesBy : Reader Fault Item → (Place → Fault → Type 0) → Type 0
 RefusesBy inner F = (p : Place) (f : Fault) → IsBytes p.rest → inner p ≡ Err f → F p f
 
 place_then : (p : Place) (a : List ℕ) (q : Place) (b more : List ℕ) → q.at ≡ p.at + length a → behind q.at b more ≡ behind p.at (a ++ b) more
@@ -77,7 +71,7 @@ place_then p a q b more at = rw at (behind-append p.at a b more)
 here_is : (p : Place) → p ≡ behind p.at [] p.rest
 here_is p = let e : p.at ≡ p.at + 0 = omega arith in ap (λ (n : ℕ). record { at = n; rest = p.rest }) e
 
-module _ (inner : Reader Item) (P : Item → Type 0) (F : Place → Fault → Type 0) (takes : TakesBy inner P) (refuses : RefusesBy inner F) where
+module _ (inner : Reader Fault Item) (P : Item → Type 0) (F : Place → Fault → Type 0) (takes : TakesBy inner P) (refuses : RefusesBy inner F) where
   pub items_fault : (n : ℕ) (found : List Item) (p : Place) (f : Fault) → IsBytes p.rest → items_at inner n found p ≡ Err f → ArrayFault P F n p f
   unfolding items_at
   items_fault zero found p f fits e = absurd (let h : done (found, p) ≡ Err f = e in not_err _ f h)
@@ -207,7 +201,7 @@ module _ (P : Item → Type 0) (F : Place → Fault → Type 0) (room : Bool) wh
             ]
       ]
 
-module _ (inner : Reader Item) (P : Item → Type 0) (F : Place → Fault → Type 0) (takes : TakesBy inner P) (refuses : RefusesBy inner F) where
+module _ (inner : Reader Fault Item) (P : Item → Type 0) (F : Place → Fault → Type 0) (takes : TakesBy inner P) (refuses : RefusesBy inner F) where
   content_fault_inside : (at : ℕ) (kind : Kind) (n : ℕ) (q : Place) (f : Fault) → IsBytes q.rest → content (Some inner) at kind n q ≡ Err f → BodyFault P F true at kind n q f
   content_fault_inside at k.Unsigned n q f fits e = absurd (not_err _ f e)
   content_fault_inside at k.Negative n q f fits e = absurd (not_err _ f e)
@@ -252,7 +246,7 @@ stopped room p f is = sym (first_rule-table room p) ∙ rw is refl
 
 -- what is refused is faulty
 pub item_fault : (d : ℕ) → RefusesBy (item_at d) (Faulty d)
-unfolding item_at
+unfolding nested
 item_fault zero p f fits e =
     elim (bind_err (head_at p) (λ h. content None p.at h.0.kind h.0.argument h.1) f e) [
       | inl stop ↦ inl (stopped false p f stop, head_fault p f stop)

@@ -5,15 +5,17 @@ use Rattle.std.proofs.lemmas.List.{append-nil, take_at, take-append-drop, length
 use Rattle.cbor_core.specs.declared.item.Item.{Item}
 use Rattle.cbor_core.specs.declared.fault.CborFault.{CborFault}
 use Rattle.cbor_core.specs.declared.fault.CborFault.TheVariants as faults
-use Rattle.cbor_core.specs.declared.fault.Fault.{Fault}
-use Rattle.cbor_core.specs.declared.fault.Why.TheVariants as why
-use Rattle.cbor_core.specs.Place.{Place, start}
-use Rattle.cbor_core.specs.Spelling.{spelling, IsBytes, Spells}
-use Rattle.cbor_core.specs.Reading.{Outcome, Fails, Decodes, IsFound, IsRefused, item_at}
-use Rattle.cbor_core.proofs.Heads.{ok_is}
+use Rattle.cbor_heads.specs.declared.fault.Fault.{Fault}
+use Rattle.cbor_heads.specs.declared.fault.Why.TheVariants as why
+use Rattle.cbor_heads.specs.Place.{Place, start}
+use Rattle.cbor_core.specs.Spelling.{spelling, Spells}
+use Rattle.base_types.specs.Bytes.{IsBytes}
+use Rattle.cbor_heads.specs.Reading.{Outcome, Stops}
+use Rattle.cbor_core.specs.Reading.{fault_in, Decodes, IsFound, IsRefused, item_at}
+use Rattle.cbor_heads.proofs.Public.Outcomes.{ok_is, err_is}
 use Rattle.cbor_core.proofs.Items.{item_takes}
 use Rattle.cbor_core.proofs.Again.{item_again}
-use Rattle.cbor_core.proofs.Faults.{err_is, item_fault}
+use Rattle.cbor_core.proofs.Faults.{item_fault}
 use Rattle.cbor_core.proofs.Refused.{item_refuses}
 use Rattle.cbor_core.specs.Law.{SpellsFront, IsFaulty, IsFaultyWhole, OneItem, OneFault, ExactlyOne, SpelledInFront, OneForOne}
 
@@ -34,7 +36,7 @@ reads bytes x n le s =
     let at : 0 + length (spelling x) ≡ n = omega arith in
     ap (λ (t : List ℕ). item_at 16 (start t)) bytes_are ∙ item_again 16 x (s.proper, s.ranges) 0 (drop n bytes) ∙ ap (λ (k : ℕ). Ok (x, record { at = k; rest = drop n bytes })) at
 
-fails_not : (e : CborFault) (o : Outcome Item) (y : Item × Place) → o ≡ Ok y → Fails o e → (x : Item × ℕ) → IsFound (Err e) x
+fails_not : (e : CborFault) (o : Outcome Fault Item) (y : Item × Place) → o ≡ Ok y → Stops o (fault_in e) → (x : Item × ℕ) → IsFound (Err e) x
 fails_not faults.NoMemory o y is h x = tt
 fails_not (faults.Bad f) o y is h x = absurd (let e : o ≡ Err f = h in let both : Ok y ≡ Err f = sym is ∙ e in cc)
 
@@ -60,7 +62,7 @@ refused bytes (Err (faults.Bad g)) d f h = err_is g f (sym d ∙ item_refuses 16
 
 -- ---- exactly one of the two
 
-by_outcome : (bytes : List ℕ) → IsBytes bytes → (o : Outcome Item) → item_at 16 (start bytes) ≡ o → OneItem bytes ⊎ OneFault bytes
+by_outcome : (bytes : List ℕ) → IsBytes bytes → (o : Outcome Fault Item) → item_at 16 (start bytes) ≡ o → OneItem bytes ⊎ OneFault bytes
 by_outcome bytes fits (Ok x) e =
     let s = found bytes (Ok (x.0, x.1.at)) fits (x.1, e, refl) in
     inl (record {
@@ -83,7 +85,7 @@ exactly_one bytes fits = by_outcome bytes fits (item_at 16 (start bytes)) refl
 
 -- ---- bytes as a whole
 
-whole_front : (bytes : List ℕ) (x : Item) → Spells x bytes → SpellsFront bytes x (length bytes)
+pub whole_front : (bytes : List ℕ) (x : Item) → Spells x bytes → SpellsFront bytes x (length bytes)
 whole_front bytes x s =
     let all : take (length bytes) bytes ≡ bytes = ap (λ (t : List ℕ). take (length bytes) t) (sym (append-nil bytes)) ∙ take_at bytes [] (length bytes) refl in
     (omega arith, record { proper = s.proper; ranges = s.ranges; spelled = all ∙ s.spelled })
@@ -123,7 +125,7 @@ spelled_in_front x bytes more s =
     let front : take (length bytes) (bytes ++ more) ≡ bytes = take_at bytes more (length bytes) refl in
     (omega (arith, length-append bytes more), record { proper = s.proper; ranges = s.ranges; spelled = front ∙ s.spelled })
 
-reads_whole : (bytes : List ℕ) (x : Item) → Spells x bytes → item_at 16 (start bytes) ≡ Ok (x, record { at = length bytes; rest = drop (length bytes) bytes })
+pub reads_whole : (bytes : List ℕ) (x : Item) → Spells x bytes → item_at 16 (start bytes) ≡ Ok (x, record { at = length bytes; rest = drop (length bytes) bytes })
 reads_whole bytes x s = let front = whole_front bytes x s in reads bytes x (length bytes) front.0 front.1
 
 pub one_for_one : OneForOne

@@ -1,4 +1,5 @@
 -- What is read is spelled so, and what is spelled so is read.
+use Rattle.cbor_heads.specs.declared.fault.Fault.{Fault}
 use Rattle.std.proofs.Common.{◌≡◌, ℕ, zero, suc, ◌+◌, ◌-◌, ◌^◌, ◌<◌, ◌≤◌, Bool, true, false, cond, List, [], ◌∷◌, ◌++◌, length, take, Some, None, Ok, Err, refl, sym, ap, subst, ◌∙◌, append_assoc, arith, inl, inr}
 use Rattle.std.specs.Prelude.{nat_lt, ◌==◌}
 use Rattle.std.specs.List.{AllByRecursion}
@@ -10,65 +11,28 @@ use Rattle.std.proofs.lemmas.List.Concat.{flat_map-cons}
 use Rattle.cbor_core.specs.declared.item.Item.{Item, out-Item}
 use Rattle.cbor_core.specs.declared.item.Item.TheVariants as i
 use Rattle.cbor_core.specs.declared.item.Pair.{Pair}
-use Rattle.cbor_core.specs.declared.fault.Why.TheVariants as why
-use Rattle.cbor_core.specs.declared.head.Kind.{Kind}
-use Rattle.cbor_core.specs.declared.head.Kind.TheVariants as k
-use Rattle.cbor_core.specs.declared.head.Head.{Head}
-use Rattle.cbor_core.specs.Place.{Place, skip}
-use Rattle.cbor_core.specs.Spelling.{head, spelling, spellings, pair_spelling, pair_spellings, bytes_below, KeysAscend, IsBytes, IsSpellable}
-use Rattle.cbor_core.specs.Reading.{Outcome, Reader, ◌>>=◌, fault, kind_of, head_at, part, text_by, bytes_at, text_at, items_at, pairs_at, between, simple, content, item_at}
-use Rattle.cbor_core.proofs.Spell.{spelling_Unsigned, spelling_Negative, spelling_Bytes, spelling_Text, spelling_Array, spelling_Map, spelling_Tag, spelling_Truth, spelling_Null, pair_spelling_out}
-use Rattle.cbor_core.proofs.Heads.{IsBytes-drop, IsBytes-take, passed, chosen, ok_is, not_ok, done, Took, HeadTook, head_takes, head_short, false_true}
-use Rattle.cbor_core.proofs.Levels.{IsWholeBy, to_spellable}
-
--- the value of a step that did not fail
-pub bind_ok : {A B : Type 0} (r : Outcome A) (f : A × Place → Outcome B) (y : B × Place) → (r >>= f) ≡ Ok y → (x : A × Place) × (r ≡ Ok x) × (f x ≡ Ok y)
-bind_ok (Ok x) f y e = (x, refl, e)
-bind_ok (Err d) f y e = absurd cc
-
-pub Took-none : (p : Place) → IsBytes p.rest → Took p [] p
-Took-none p fits = record { rest = refl; at = omega arith; fits = fits }
-
-pub Took-then : (p : Place) (x : List ℕ) (q : Place) (y : List ℕ) (r : Place) → Took p x q → Took q y r → Took p (x ++ y) r
-Took-then p x q y r a b = record {
-  rest = a.rest ∙ ap (λ (t : List ℕ). x ++ t) b.rest ∙ sym (append_assoc x y r.rest);
-  at = omega (arith, a.at, b.at, length-append x y);
-  fits = b.fits;
-}
-
--- ---- kinds and major types
-
-abbrev pub major_of : Kind → ℕ
-major_of k.Unsigned = 0
-major_of k.Negative = 1
-major_of k.Bytes = 2
-major_of k.Text = 3
-major_of k.Array = 4
-major_of k.Map = 5
-major_of k.Tag = 6
-major_of k.Simple = 7
-
-major_of-kind : (m : ℕ) → m < 8 → major_of (kind_of m) ≡ m
-major_of-kind zero lt = refl
-major_of-kind (suc zero) lt = refl
-major_of-kind (suc (suc zero)) lt = refl
-major_of-kind (suc (suc (suc zero))) lt = refl
-major_of-kind (suc (suc (suc (suc zero)))) lt = refl
-major_of-kind (suc (suc (suc (suc (suc zero))))) lt = refl
-major_of-kind (suc (suc (suc (suc (suc (suc zero)))))) lt = refl
-major_of-kind (suc (suc (suc (suc (suc (suc (suc zero))))))) lt = refl
-major_of-kind (suc (suc (suc (suc (suc (suc (suc (suc m)))))))) lt = absurd (omega arith)
-
-pub kind_takes : (p : Place) (x : Head × Place) → IsBytes p.rest → head_at p ≡ Ok x → HeadTook (major_of x.0.kind) p x.0 x.1
-kind_takes p x fits e =
-    let h = head_takes p x fits e in
-    let is : h.0 ≡ major_of x.0.kind = sym (ap major_of h.2.kind ∙ major_of-kind h.0 h.1) in
-    subst (λ (m : ℕ). HeadTook m p x.0 x.1) is h.2
+use Rattle.cbor_heads.specs.declared.fault.Why.TheVariants as why
+use Rattle.cbor_heads.specs.declared.head.Kind.{Kind}
+use Rattle.cbor_heads.specs.declared.head.Kind.TheVariants as k
+use Rattle.cbor_heads.specs.declared.head.Head.{Head}
+use Rattle.cbor_heads.specs.Place.{Place, skip, between}
+use Rattle.cbor_heads.specs.Head.{head, kind_of}
+use Rattle.cbor_core.specs.Spelling.{spelling, spellings, pair_spelling, pair_spellings, bytes_below, KeysAscend, IsSpellable}
+use Rattle.base_types.specs.Bytes.{IsBytes}
+use Rattle.cbor_heads.specs.Reading.{Outcome, Reader, ◌>>=◌, nested}
+use Rattle.cbor_heads.specs.HeadReading.{fault, head_at}
+use Rattle.cbor_core.specs.Reading.{part, text_by, bytes_at, text_at, items_at, pairs_at, simple, content, item_at}
+use Rattle.cbor_core.proofs.Public.Spell.{spelling_Unsigned, spelling_Negative, spelling_Bytes, spelling_Text, spelling_Array, spelling_Map, spelling_Tag, spelling_Truth, spelling_Null, pair_spelling_out}
+use Rattle.base_types.proofs.Public.Bytes.{IsBytes-drop, IsBytes-take}
+use Rattle.cbor_heads.proofs.Public.Outcomes.{passed, chosen, ok_is, not_ok, done, bind_ok}
+use Rattle.cbor_heads.proofs.Public.Heads.{Took, HeadTook, head_takes, head_short, false_true}
+use Rattle.cbor_core.proofs.Public.Levels.{IsWholeBy, to_spellable}
+use Rattle.cbor_heads.proofs.Public.Kinds.{Took-none, major_of, Took-then, kind_takes}
 
 -- ---- depth
 
 -- what a reader reads is spelled so
-abbrev pub TakesBy : Reader Item → (Item → Type 0) → Type 0
+abbrev pub TakesBy : Reader Fault Item → (Item → Type 0) → Type 0
 TakesBy inner P = (p : Place) (x : Item × Place) → IsBytes p.rest → inner p ≡ Ok x → Took p (spelling x.0) x.1 × P x.0
 
 -- what a reader found behind those found before
@@ -79,7 +43,7 @@ pub record Found (P : Item → Type 0) (n : ℕ) (found : List Item) (p : Place)
   pub each : AllByRecursion P items
   pub took : Took p (spellings items) x.1
 
-pub items_take : (inner : Reader Item) (P : Item → Type 0) → TakesBy inner P → (n : ℕ) (found : List Item) (p : Place) (x : List Item × Place) → IsBytes p.rest
+pub items_take : (inner : Reader Fault Item) (P : Item → Type 0) → TakesBy inner P → (n : ℕ) (found : List Item) (p : Place) (x : List Item × Place) → IsBytes p.rest
     → items_at inner n found p ≡ Ok x → Found P n found p x
 unfolding items_at
 items_take inner P law zero found p x fits e =
@@ -115,7 +79,7 @@ pub record Whole (room : Bool) (P : Item → Type 0) (p : Place) (x : Item × Pl
 module _ (room : Bool) (P : Item → Type 0) where
   -- an item of a head alone
   pub head_only : (major n : ℕ) (p q : Place) (y : Item) (x : Item × Place) → Took p (head major n) q → spelling y ≡ head major n → IsWholeBy room P (out-Item y)
-      → done (y, q) ≡ Ok x → Whole room P p x
+      → done {E = Fault} (y, q) ≡ Ok x → Whole room P p x
   head_only major n p q y x h is ok e = subst (λ (z : Item × Place). Whole room P p z) (ok_is (y, q) x e) (record { took = rw is h; proper = ok })
 
   pub bytes_take : (at n : ℕ) (p q : Place) (x : Item × Place) → n < 2 ^ 64 → Took p (head 2 n) q → bytes_at at n q ≡ Ok x → Whole room P p x
@@ -143,7 +107,7 @@ module _ (room : Bool) (P : Item → Type 0) where
         | inr there ↦ absurd (not_ok (record { at = at; why = why.BadText }) x there.1)
       ]
 
-  pub simple_take : (n : ℕ) (p q : Place) (x : Item × Place) → 20 ≤ n → n ≤ 22 → Took p (head 7 n) q → done (simple n, q) ≡ Ok x → Whole room P p x
+  pub simple_take : (n : ℕ) (p q : Place) (x : Item × Place) → 20 ≤ n → n ≤ 22 → Took p (head 7 n) q → done {E = Fault} (simple n, q) ≡ Ok x → Whole room P p x
   simple_take n p q x low high h e =
       let lt : n < 24 = omega arith in
       let is : head 7 n ≡ (224 + n) ∷ [] = head_short 7 n lt in
@@ -178,7 +142,7 @@ pub record FoundPairs (P : Item → Type 0) (n : ℕ) (found : List Pair) (last 
   pub ascend : KeysAscend last pairs
   pub took : Took p (pair_spellings pairs) x.1
 
-pub pairs_take : (inner : Reader Item) (P : Item → Type 0) → TakesBy inner P → (n : ℕ) (found : List Pair) (last : List ℕ) (p : Place) (x : List Pair × Place) → IsBytes p.rest
+pub pairs_take : (inner : Reader Fault Item) (P : Item → Type 0) → TakesBy inner P → (n : ℕ) (found : List Pair) (last : List ℕ) (p : Place) (x : List Pair × Place) → IsBytes p.rest
     → pairs_at inner n found last p ≡ Ok x → FoundPairs P n found last p x
 unfolding pairs_at
 pairs_take inner P law zero found last p x fits e =
@@ -209,7 +173,7 @@ pairs_take inner P law (suc n) found last p x fits e =
 
 -- ---- containers
 
-module _ (inner : Reader Item) (P : Item → Type 0) (law : TakesBy inner P) where
+module _ (inner : Reader Fault Item) (P : Item → Type 0) (law : TakesBy inner P) where
   pub array_take : (at n : ℕ) (p q : Place) (x : Item × Place) → n < 2 ^ 64 → Took p (head 4 n) q → (items_at inner n [] q >>= λ y. Ok (i.Array y.0, y.1)) ≡ Ok x → Whole true P p x
   array_take at n p q x lt h e =
       let a = bind_ok (items_at inner n [] q) (λ y. Ok (i.Array y.0, y.1)) x e in
@@ -265,7 +229,7 @@ content_take_leaf at k.Simple n p q x lt s h e = simple_take false (λ _. ⊥) n
 
 -- what is read is spelled so
 pub item_takes : (d : ℕ) → TakesBy (item_at d) (IsSpellable d)
-unfolding item_at
+unfolding nested
 item_takes zero p x fits e =
     let a = bind_ok (head_at p) (λ h. content None p.at h.0.kind h.0.argument h.1) x e in
     let h = kind_takes p a.0 fits a.1 in

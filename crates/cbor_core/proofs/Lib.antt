@@ -1,14 +1,9 @@
-pub mod Spell
-pub mod Levels
-pub mod Written
-pub mod Depth
-pub mod Heads
-pub mod Items
-pub mod Again
-pub mod Inputs
-pub mod Parts
-pub mod KeyOrder
-pub mod Faults
-pub mod Refused
-pub mod Tables
-pub mod Sizes
+pub mod Public
+mod Written
+mod Depth
+mod Items
+mod Again
+mod Inputs
+mod Faults
+mod Refused
+mod Tables

@@ -7,19 +7,21 @@ use Rattle.std.proofs.lemmas.List.{append-nil, length-append, take_at}
 use Rattle.std.proofs.lemmas.List.Concat.{flat_map-cons}
 use Rattle.cbor_core.specs.declared.item.Item.{Item}
 use Rattle.cbor_core.specs.declared.item.Pair.{Pair}
-use Rattle.cbor_core.specs.declared.fault.Fault.{Fault}
-use Rattle.cbor_core.specs.declared.fault.Why.{Why}
-use Rattle.cbor_core.specs.declared.fault.Why.TheVariants as why
-use Rattle.cbor_core.specs.declared.head.Kind.{Kind}
-use Rattle.cbor_core.specs.declared.head.Kind.TheVariants as k
-use Rattle.cbor_core.specs.declared.head.Head.{Head}
-use Rattle.cbor_core.specs.Place.{Place}
+use Rattle.cbor_heads.specs.declared.fault.Fault.{Fault}
+use Rattle.cbor_heads.specs.declared.fault.Why.{Why}
+use Rattle.cbor_heads.specs.declared.fault.Why.TheVariants as why
+use Rattle.cbor_heads.specs.declared.head.Kind.{Kind}
+use Rattle.cbor_heads.specs.declared.head.Kind.TheVariants as k
+use Rattle.cbor_heads.specs.declared.head.Head.{Head}
+use Rattle.cbor_heads.specs.Place.{Place, between, behind}
 use Rattle.cbor_core.specs.Spelling.{spelling, spellings, pair_spelling, pair_spellings, KeysAscend, IsSpellable}
-use Rattle.cbor_core.specs.Reading.{Outcome, Reader, ◌>>=◌, fault, head_at, part, bytes_at, text_at, items_at, pairs_at, between, content, item_at}
-use Rattle.cbor_core.specs.Faulty.{behind, last_key, ArrayFault, AfterKey, MapFault, PartFault, PartFaultBy, FaultyBy, Faulty}
+use Rattle.cbor_heads.specs.Reading.{Outcome, Reader, ◌>>=◌, nested}
+use Rattle.cbor_heads.specs.HeadReading.{fault, head_at}
+use Rattle.cbor_core.specs.Reading.{part, bytes_at, text_at, items_at, pairs_at, content, item_at}
+use Rattle.cbor_core.specs.Faulty.{last_key, ArrayFault, AfterKey, MapFault, PartFault, PartFaultBy, FaultyBy, Faulty}
 use Rattle.cbor_core.specs.Table.{body_rule}
 use Rattle.cbor_core.proofs.Tables.{rule_by, first_rule-table, part_in}
-use Rattle.cbor_core.proofs.Spell.{pair_spelling_out}
+use Rattle.cbor_core.proofs.Public.Spell.{pair_spelling_out}
 use Rattle.cbor_core.proofs.Again.{ReadsAgain, item_again, behind-append}
 use Rattle.cbor_core.proofs.Faults.{head_fault}
 
@@ -40,7 +42,7 @@ some_by : (b : Bool) (w v : Why) (x : Option Why) → cond b (just w) x ≡ just
 some_by true w v x e = inl (refl, some_is w v e)
 some_by false w v x e = inr (refl, e)
 
-abbrev RefusesIf : Reader Item → (Place → Fault → Type 0) → Type 0
+abbrev RefusesIf : Reader Fault Item → (Place → Fault → Type 0) → Type 0
 RefusesIf inner F = (p : Place) (f : Fault) → F p f → inner p ≡ Err f
 
 at_place : (q : Place) (text : List ℕ) → q.rest ≡ text → q ≡ record { at = q.at; rest = text }
@@ -54,7 +56,7 @@ between_text before n text more =
     let len : length (text ++ more) - length more ≡ length text = omega (arith, length-append text more) in
     rw len (take_at text more (length text) refl)
 
-module _ (inner : Reader Item) (P : Item → Type 0) (F : Place → Fault → Type 0) (law : (x : Item) → P x → ReadsAgain inner x) (refuses : RefusesIf inner F) where
+module _ (inner : Reader Fault Item) (P : Item → Type 0) (F : Place → Fault → Type 0) (law : (x : Item) → P x → ReadsAgain inner x) (refuses : RefusesIf inner F) where
   items_prefix : (xs found : List Item) (n before : ℕ) (more : List ℕ) → AllByRecursion P xs
       → items_at inner (length xs + n) found (record { at = before; rest = spellings xs ++ more }) ≡ items_at inner n (found ++ xs) (behind before (spellings xs) more)
   unfolding items_at
@@ -177,7 +179,7 @@ body_err_text at n q w room e =
       | inr whole ↦ let t = wrong_text (is_utf8 (take n q.rest)) w whole.1 in text_err at n q whole.0 t.0 ∙ ap (λ (v : Why). Err (record { at = at; why = v })) t.1
     ]
 
-body_err_inside : (inner : Reader Item) (at : ℕ) (kind : Kind) (n : ℕ) (q : Place) (w : Why) → body_rule true kind n q ≡ Some w → content (Some inner) at kind n q ≡ Err (record { at = at; why = w })
+body_err_inside : (inner : Reader Fault Item) (at : ℕ) (kind : Kind) (n : ℕ) (q : Place) (w : Why) → body_rule true kind n q ≡ Some w → content (Some inner) at kind n q ≡ Err (record { at = at; why = w })
 body_err_inside inner at k.Unsigned n q w e = absurd (not_some w e)
 body_err_inside inner at k.Negative n q w e = absurd (not_some w e)
 body_err_inside inner at k.Bytes n q w e = body_err_bytes at n q w true e
@@ -212,20 +214,20 @@ no_part k.Tag n q f e h = not_some why.TooDeep (sym e)
 no_part k.Simple n q f e h = h
 
 -- a part of what the head that was read announces is faulty
-abbrev pub PartByHead : (P : Item → Type 0) (F : Place → Fault → Type 0) → Outcome Head → Fault → Type 0
+abbrev pub PartByHead : (P : Item → Type 0) (F : Place → Fault → Type 0) → Outcome Fault Head → Fault → Type 0
 PartByHead P F (Err g) f = ⊥
 PartByHead P F (Ok x) f = PartFault P F x.0.kind x.0.argument x.1 f
 
 -- by what the head is
-leaf_refuses : (p : Place) (f : Fault) (o : Outcome Head) → head_at p ≡ o → ((rule_by false o ≡ Some f.why) × (f.at ≡ p.at)) ⊎ ((rule_by false o ≡ None) × PartByHead (λ _. ⊥) (λ _ _. ⊥) o f)
+leaf_refuses : (p : Place) (f : Fault) (o : Outcome Fault Head) → head_at p ≡ o → ((rule_by false o ≡ Some f.why) × (f.at ≡ p.at)) ⊎ ((rule_by false o ≡ None) × PartByHead (λ _. ⊥) (λ _ _. ⊥) o f)
     → (o >>= λ h. content None p.at h.0.kind h.0.argument h.1) ≡ Err f
 leaf_refuses p f (Err g) is (inl a) = ap (λ (x : Fault). Err x) (sym (fault_is g p.at f.why (head_fault p g is) (sym (some_is g.why f.why a.0))) ∙ fault_is f p.at f.why a.1 refl)
 leaf_refuses p f (Err g) is (inr b) = absurd b.1
 leaf_refuses p f (Ok x) is (inl a) = body_err_leaf p.at x.0.kind x.0.argument x.1 f.why a.0 ∙ ap (λ (y : Fault). Err y) (fault_is f p.at f.why a.1 refl)
 leaf_refuses p f (Ok x) is (inr b) = absurd (no_part x.0.kind x.0.argument x.1 f b.0 b.1)
 
-inside_refuses : (inner : Reader Item) (P : Item → Type 0) (F : Place → Fault → Type 0) (law : (x : Item) → P x → ReadsAgain inner x) (refuses : RefusesIf inner F)
-    → (p : Place) (f : Fault) (o : Outcome Head) → head_at p ≡ o → ((rule_by true o ≡ Some f.why) × (f.at ≡ p.at)) ⊎ ((rule_by true o ≡ None) × PartByHead P F o f)
+inside_refuses : (inner : Reader Fault Item) (P : Item → Type 0) (F : Place → Fault → Type 0) (law : (x : Item) → P x → ReadsAgain inner x) (refuses : RefusesIf inner F)
+    → (p : Place) (f : Fault) (o : Outcome Fault Head) → head_at p ≡ o → ((rule_by true o ≡ Some f.why) × (f.at ≡ p.at)) ⊎ ((rule_by true o ≡ None) × PartByHead P F o f)
     → (o >>= λ h. content (Some inner) p.at h.0.kind h.0.argument h.1) ≡ Err f
 inside_refuses inner P F law refuses p f (Err g) is (inl a) = ap (λ (x : Fault). Err x) (sym (fault_is g p.at f.why (head_fault p g is) (sym (some_is g.why f.why a.0))) ∙ fault_is f p.at f.why a.1 refl)
 inside_refuses inner P F law refuses p f (Err g) is (inr b) = absurd b.1
@@ -236,7 +238,7 @@ inside_refuses inner P F law refuses p f (Ok x) is (inr b) = part_err inner P F 
 abbrev RuleOrPart : (P : Item → Type 0) (F : Place → Fault → Type 0) → Option Why → Place → Fault → Type 0
 RuleOrPart P F rule p f = ((rule ≡ Some f.why) × (f.at ≡ p.at)) ⊎ ((rule ≡ None) × PartByHead P F (head_at p) f)
 
-part_by_head : (P : Item → Type 0) (F : Place → Fault → Type 0) (room : Bool) (p : Place) (f : Fault) (o : Outcome Head) → head_at p ≡ o → rule_by room o ≡ None
+part_by_head : (P : Item → Type 0) (F : Place → Fault → Type 0) (room : Bool) (p : Place) (f : Fault) (o : Outcome Fault Head) → head_at p ≡ o → rule_by room o ≡ None
     → PartFaultBy P F p p.rest f → PartByHead P F o f
 part_by_head P F room p f (Err g) is none h = absurd (not_some g.why (sym none))
 part_by_head P F room p f (Ok x) is none h = part_in P F f x p is h
@@ -249,6 +251,6 @@ by_head P F room p f (inr b) =
 
 -- what is faulty is refused
 pub item_refuses : (d : ℕ) (p : Place) (f : Fault) → Faulty d p f → item_at d p ≡ Err f
-unfolding item_at
+unfolding nested
 item_refuses zero p f h = leaf_refuses p f (head_at p) refl (by_head (λ _. ⊥) (λ _ _. ⊥) false p f h)
 item_refuses (suc d) p f h = inside_refuses (item_at d) (IsSpellable d) (Faulty d) (item_again d) (item_refuses d) p f (head_at p) refl (by_head (IsSpellable d) (Faulty d) true p f h)

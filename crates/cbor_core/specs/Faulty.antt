@@ -3,17 +3,13 @@ use Rattle.std.specs.Prelude.{ℕ, zero, suc, ◌+◌, ◌/◌, ◌%◌, ◌<◌
 use Rattle.std.specs.List.{AllByRecursion}
 use Rattle.cbor_core.specs.declared.item.Item.{Item}
 use Rattle.cbor_core.specs.declared.item.Pair.{Pair}
-use Rattle.cbor_core.specs.declared.fault.Fault.{Fault}
-use Rattle.cbor_core.specs.declared.fault.Why.TheVariants as why
-use Rattle.cbor_core.specs.declared.head.Kind.{Kind}
-use Rattle.cbor_core.specs.declared.head.Kind.TheVariants as k
-use Rattle.cbor_core.specs.Place.{Place, skip}
+use Rattle.cbor_heads.specs.declared.fault.Fault.{Fault}
+use Rattle.cbor_heads.specs.declared.fault.Why.TheVariants as why
+use Rattle.cbor_heads.specs.declared.head.Kind.{Kind}
+use Rattle.cbor_heads.specs.declared.head.Kind.TheVariants as k
+use Rattle.cbor_heads.specs.Place.{Place, skip, behind}
 use Rattle.cbor_core.specs.Spelling.{spelling, spellings, pair_spellings, bytes_below, KeysAscend, IsSpellable}
 use Rattle.cbor_core.specs.Table.{announced, table}
-
--- the place behind a text that stood before more bytes
-abbrev pub behind : ℕ → List ℕ → List ℕ → Place
-behind before text more = record { at = before + length text; rest = more }
 
 -- the spelling of the last key
 abbrev pub last_key : List ℕ → List Pair → List ℕ

@@ -2,13 +2,14 @@
 use Rattle.std.specs.Prelude.{ℕ, ◌≤◌, ◌<◌, ◌≡◌, ◌⊎◌, List, [], ◌++◌, length, take}
 use Rattle.base_types.specs.declared.limits.TheConstants.{CBOR_DEPTH_LIMIT}
 use Rattle.cbor_core.specs.declared.item.Item.{Item}
-use Rattle.cbor_core.specs.declared.fault.Fault.{Fault}
-use Rattle.cbor_core.specs.declared.fault.Why.TheVariants as why
-use Rattle.cbor_core.specs.Place.{start}
+use Rattle.cbor_heads.specs.declared.fault.Fault.{Fault}
+use Rattle.cbor_heads.specs.declared.fault.Why.TheVariants as why
+use Rattle.cbor_heads.specs.Place.{start}
 use Rattle.std.specs.List.{AllByRecursion}
 use Rattle.cbor_core.specs.declared.item.Item.TheVariants as i
 use Rattle.cbor_core.specs.declared.item.Pair.{Pair}
-use Rattle.cbor_core.specs.Spelling.{IsBytes, KeysAscend, IsProper, Spells}
+use Rattle.base_types.specs.Bytes.{IsBytes}
+use Rattle.cbor_core.specs.Spelling.{KeysAscend, IsProper, Spells}
 use Rattle.cbor_core.specs.Faulty.{Faulty}
 
 -- the first n bytes spell the item
@@ -48,6 +49,24 @@ pub record OneFault (bytes : List ℕ) : Type 0 where
 -- exactly one of the two, for each list of bytes
 abbrev pub ExactlyOne : Type 0
 ExactlyOne = (bytes : List ℕ) → IsBytes bytes → OneItem bytes ⊎ OneFault bytes
+
+-- the bytes as a whole spell one item, and there is no fault
+pub record OneItemWhole (bytes : List ℕ) : Type 0 where
+  pub item : Item
+  pub spelled : Spells item bytes
+  pub alone : (x : Item) → Spells x bytes → x ≡ item
+  pub no_fault : (f : Fault) → IsFaultyWhole bytes f → ⊥
+
+-- the bytes as a whole have one fault, and spell no item
+pub record OneFaultWhole (bytes : List ℕ) : Type 0 where
+  pub first : Fault
+  pub faulty : IsFaultyWhole bytes first
+  pub alone : (f : Fault) → IsFaultyWhole bytes f → f ≡ first
+  pub no_item : (x : Item) → Spells x bytes → ⊥
+
+-- exactly one of the two, for each list of bytes as a whole
+abbrev pub ExactlyOneWhole : Type 0
+ExactlyOneWhole = (bytes : List ℕ) → IsBytes bytes → OneItemWhole bytes ⊎ OneFaultWhole bytes
 
 -- what spells an item is a front of its bytes and of anything that goes on behind them
 abbrev pub SpelledInFront : Type 0

@@ -1,9 +1,7 @@
 pub mod Spelling
-pub mod Place
 pub mod Reading
 pub mod Table
 pub mod Faulty
 pub mod Law
-pub mod Printing
 pub mod Writing
 pub mod Views

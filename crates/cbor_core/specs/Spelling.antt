@@ -1,26 +1,18 @@
 -- Which bytes spell an item: core deterministic encoding (RFC 8949, sections 3 and 4.2.1).
-use Rattle.std.specs.Prelude.{ℕ, zero, suc, ◌<◌, Bool, slice_index, ◌+◌, ◌*◌, ◌^◌, ◌≡◌, nat_lt, List, [], ◌∷◌, ◌++◌, length, if◌then◌else◌, true, false}
-use Rattle.std.specs.Int.{to_be_bytes, w16, w32, w64}
+use Rattle.std.specs.Prelude.{ℕ, zero, suc, ◌<◌, Bool, ◌^◌, ◌≡◌, List, [], ◌∷◌, ◌++◌, length, if◌then◌else◌, true, false}
 use Rattle.std.specs.List.{flat_map, AllByRecursion}
 use Rattle.std.specs.Str.{IsUtf8}
 use Rattle.std.specs.Cmp.Lexicographic.{slice_cmp}
 use Rattle.std.specs.Ordering.{nat_cmp, is_lt}
+use Rattle.base_types.specs.Bytes.{IsBytes}
 use Rattle.base_types.specs.declared.limits.TheConstants.{CBOR_DEPTH_LIMIT}
+use Rattle.cbor_heads.specs.Head.{head}
 use Rattle.cbor_core.specs.declared.item.Item.{Item, out-Item}
 use Rattle.cbor_core.specs.declared.item.Pair.{Pair}
 use Rattle.cbor_core.specs.declared.item.Item.TheFolds.{fold-Item, fold-Pair}
 use Rattle.cbor_core.specs.declared.item.Item.TheOpen.{Item-F, Pair-F}
 
 -- ---- the bytes of an item
-
--- the shortest head of a major type with an argument (RFC 8949, sections 3 and 4.2.1)
-unfoldable pub head : ℕ → ℕ → List ℕ
-head major n =
-    if nat_lt n 24 then (32 * major + n) ∷ []
-    else (if nat_lt n 256 then (32 * major + 24) ∷ n ∷ []
-    else (if nat_lt n 65536 then (32 * major + 25) ∷ to_be_bytes w16 n
-    else (if nat_lt n 4294967296 then (32 * major + 26) ∷ to_be_bytes w32 n
-    else (32 * major + 27) ∷ to_be_bytes w64 n)))
 
 -- parts, one behind the other
 abbrev pub joined : List (List ℕ) → List ℕ
@@ -59,7 +51,7 @@ pair_spellings = flat_map pair_spelling
 
 -- ---- which items are proper: a matter of structure alone
 
--- strictly before, byte by byte, and a front before what goes on behind it (RFC 8949, section 4.2.1)
+-- one stands strictly before the other, byte by byte, and a front before what goes on behind it (RFC 8949, section 4.2.1)
 abbrev pub bytes_below : List ℕ → List ℕ → Bool
 bytes_below a b = is_lt (slice_cmp nat_cmp a b)
 
@@ -85,9 +77,6 @@ abbrev pub IsProper : Item → Type 0
 IsProper x = IsProperWithin CBOR_DEPTH_LIMIT x
 
 -- ---- ranges: what each item of a running program has
-
-abbrev pub IsBytes : List ℕ → Type 0
-IsBytes bytes = (i : ℕ) → slice_index bytes i < 256
 
 -- A level whose parts meet P: numbers and lengths have 64 bits, bytes have 8, a text is UTF-8.
 abbrev pub IsInRangeBy : (Item → Type 0) → Item-F Item Pair → Type 0

@@ -1,7 +1,7 @@
 use base_types::{Boxed, List, Octets, Utf8};
 
 /// A CBOR data item (RFC 8949, section 3.1), of those kinds that this codec knows.
-#[derive(Clone, Debug, Drop, Eq, PartialEq)]
+#[derive(Debug, Drop, Eq, PartialEq)]
 #[cycle(item)]
 pub enum Item {
     /// The number itself.
@@ -25,7 +25,7 @@ pub enum Item {
 }
 
 /// A key of a map and its value.
-#[derive(Clone, Debug, Drop, Eq, PartialEq)]
+#[derive(Debug, Drop, Eq, PartialEq)]
 #[cycle(item)]
 pub struct Pair {
     pub key: Item,

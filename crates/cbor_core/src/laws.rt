@@ -1,9 +1,15 @@
-ghost use Rattle.cbor_core.specs.Law.{ExactlyOne, OneForOne, PartsAreProper, SpelledInFront};
+ghost use Rattle.cbor_core.specs.Law.{ExactlyOne, ExactlyOneWhole, OneForOne, PartsAreProper, SpelledInFront};
 
 /// For each list of bytes: one front of it spells an item, and one item, or it has one first fault,
 /// and never both.
 pub fn exactly_one()
     ensures { ExactlyOne }
+{}
+
+/// For each list of bytes: as a whole it spells an item, and one item, or it has one first fault, and
+/// never both.
+pub fn exactly_one_whole()
+    ensures { ExactlyOneWhole }
 {}
 
 /// What spells an item stands in front of whatever follows. So by `decode` what `encode` wrote is

@@ -7,8 +7,6 @@
 
 mod copies;
 mod fault;
-mod head;
-mod input;
 mod item;
 mod laws;
 mod reader;
@@ -17,11 +15,11 @@ mod tests;
 mod views;
 mod writer;
 
-pub use base_types::{Boxed, CBOR_DEPTH_LIMIT, Failed, List, NoMemory, Octets, OrMemory, Utf8};
+pub use cbor_heads::{Fault, Why};
 pub use copies::{copy_items, copy_pairs};
-pub use fault::{CborFault, Fault, Why};
+pub use fault::CborFault;
 pub use item::{Item, Pair};
-pub use laws::{exactly_one, one_for_one, parts_are_proper, spelled_in_front};
+pub use laws::{exactly_one, exactly_one_whole, one_for_one, parts_are_proper, spelled_in_front};
 pub use reader::{decode, decode_whole};
 pub use views::field;
 pub use writer::{encode, is_proper};

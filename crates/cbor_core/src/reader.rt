@@ -1,16 +1,16 @@
 ghost use Rattle.std.specs.Prelude.{◌≡◌, ℕ, [], ◌<◌, ◌-◌, take, length, IfOk};
-ghost use Rattle.cbor_core.specs.Place.{start};
+ghost use Rattle.cbor_heads.specs.Place.{start};
+ghost use Rattle.cbor_heads.specs.Reading.{Follows, inside};
 ghost use Rattle.cbor_core.specs.declared.item.Item.{Item};
 ghost use Rattle.cbor_core.specs.Spelling.{bytes_below, Spells};
 ghost use Rattle.cbor_core.specs.Law.{SpellsFront, IsFaulty, IsFaultyWhole};
-ghost use Rattle.cbor_core.specs.declared.fault.Fault.{Fault};
-ghost use Rattle.cbor_core.specs.Reading.{Gives, Decodes, IsFound, IsRefused, items_at, item_at, inside, array_at, tag_at, bytes_at, text_at, simple, map_at, pairs_at};
+ghost use Rattle.cbor_heads.specs.declared.fault.Fault.{Fault};
+ghost use Rattle.cbor_core.specs.Reading.{fault_in, Decodes, IsFound, IsRefused, items_at, item_at, item_by, array_at, tag_at, bytes_at, text_at, simple, map_at, pairs_at};
 
-use crate::fault::{CborFault, Fault, Why};
-use crate::head::{Kind, read_head};
-use crate::input::Input;
+use crate::fault::CborFault;
 use crate::item::{Item, Pair};
 use base_types::{Boxed, CBOR_DEPTH_LIMIT, List, Octets, Utf8};
+use cbor_heads::{Fault, Input, Kind, Why, read_head};
 use std::alloc::Global;
 
 /// The answer that names a fault.
@@ -34,7 +34,7 @@ fn simple_item(n: u64) -> Item
 /// Reads the n bytes of the byte string that began at a place.
 #[tactic(auto, unfolding(crate::specs::Reading::part))]
 fn read_bytes(alloc: Global, input: &mut Input<'_>, at: usize, n: u64) -> Result<Item, CborFault>
-    ensures { Gives (bytes_at at n input.old) result input.new }
+    ensures { Follows fault_in (bytes_at at n input.old) result input.new }
 {
     let n = n as usize;
     if input.len() < n {
@@ -45,9 +45,9 @@ fn read_bytes(alloc: Global, input: &mut Input<'_>, at: usize, n: u64) -> Result
 }
 
 /// Reads the n bytes of the text that began at a place.
-#[tactic(auto, using(crate::proofs::Depth::texts), unfolding(crate::specs::Reading::part))]
+#[tactic(auto, using(cbor_heads::proofs::Public::Texts::texts), unfolding(crate::specs::Reading::part))]
 fn read_text(alloc: Global, input: &mut Input<'_>, at: usize, n: u64) -> Result<Item, CborFault>
-    ensures { Gives (text_at at n input.old) result input.new }
+    ensures { Follows fault_in (text_at at n input.old) result input.new }
 {
     let n = n as usize;
     if input.len() < n {
@@ -64,9 +64,9 @@ fn read_text(alloc: Global, input: &mut Input<'_>, at: usize, n: u64) -> Result<
 /// its answer does not go through memory.
 #[cycle(reader)]
 #[inline(always)]
-#[tactic(auto, using(crate::proofs::Depth::depths))]
+#[tactic(auto, using(cbor_heads::proofs::Public::Depths::depths))]
 fn read_item(alloc: Global, depth: u8, input: &mut Input<'_>) -> Result<Item, CborFault>
-    ensures { Gives (item_at depth input.old) result input.new }
+    ensures { Follows fault_in (item_at depth input.old) result input.new }
 {
     let at = input.at();
     let head = read_head(input)?;
@@ -85,7 +85,7 @@ fn read_item(alloc: Global, depth: u8, input: &mut Input<'_>) -> Result<Item, Cb
 
 /// Reads the n members of the array that began at a place.
 #[cycle(reader)]
-#[tactic(auto, using(crate::proofs::Depth::depths))]
+#[tactic(auto, using(cbor_heads::proofs::Public::Depths::depths))]
 fn read_array(
     alloc: Global,
     depth: u8,
@@ -93,7 +93,7 @@ fn read_array(
     at: usize,
     n: u64,
 ) -> Result<Item, CborFault>
-    ensures { Gives (array_at (inside depth) at n input.old) result input.new }
+    ensures { Follows fault_in (array_at (inside item_by depth) at n input.old) result input.new }
 {
     if depth == 0 {
         return Err(bad(at, Why::TooDeep));
@@ -104,7 +104,7 @@ fn read_array(
 
 /// Reads the item that the tag n, which began at a place, is put on.
 #[cycle(reader)]
-#[tactic(auto, using(crate::proofs::Depth::depths))]
+#[tactic(auto, using(cbor_heads::proofs::Public::Depths::depths))]
 fn read_tag(
     alloc: Global,
     depth: u8,
@@ -112,7 +112,7 @@ fn read_tag(
     at: usize,
     n: u64,
 ) -> Result<Item, CborFault>
-    ensures { Gives (tag_at (inside depth) at n input.old) result input.new }
+    ensures { Follows fault_in (tag_at (inside item_by depth) at n input.old) result input.new }
 {
     if depth == 0 {
         return Err(bad(at, Why::TooDeep));
@@ -135,7 +135,7 @@ fn read_items(
     input: &mut Input<'_>,
     n: u64,
 ) -> Result<List<Item>, CborFault>
-    ensures { Gives (items_at (item_at depth) n [] input.old) result input.new }
+    ensures { Follows fault_in (items_at (item_at depth) n [] input.old) result input.new }
 {
     let mut found = Vec::with_capacity(alloc, first_room(n))?;
     for _ in 0..n {
@@ -146,7 +146,7 @@ fn read_items(
 
 /// Reads the n pairs of the map that began at a place.
 #[cycle(reader)]
-#[tactic(auto, using(crate::proofs::Depth::depths))]
+#[tactic(auto, using(cbor_heads::proofs::Public::Depths::depths))]
 fn read_map(
     alloc: Global,
     depth: u8,
@@ -154,7 +154,7 @@ fn read_map(
     at: usize,
     n: u64,
 ) -> Result<Item, CborFault>
-    ensures { Gives (map_at (inside depth) at n input.old) result input.new }
+    ensures { Follows fault_in (map_at (inside item_by depth) at n input.old) result input.new }
 {
     if depth == 0 {
         return Err(bad(at, Why::TooDeep));
@@ -186,7 +186,7 @@ fn read_pairs(
     input: &mut Input<'_>,
     n: u64,
 ) -> Result<List<Pair>, CborFault>
-    ensures { Gives (pairs_at (item_at depth) n [] [] input.old) result input.new }
+    ensures { Follows fault_in (pairs_at (item_at depth) n [] [] input.old) result input.new }
 {
     let mut found = Vec::with_capacity(alloc, first_room(n))?;
     let mut last: &[u8] = &[];

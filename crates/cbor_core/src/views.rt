@@ -1,6 +1,6 @@
-ghost use Rattle.std.specs.Prelude.{◌≡◌, ◌↔◌, IsTrue, option_map};
+ghost use Rattle.std.specs.Prelude.{◌≡◌, option_map};
 ghost use Rattle.std.specs.Option.{option_copied};
-ghost use Rattle.cbor_core.specs.Views.{unsigned_of, negative_of, bytes_of, text_of, array_of, map_of, tagged_of, truth_of, labelled_by};
+ghost use Rattle.cbor_core.specs.Views.{unsigned_of, bytes_of, text_of, array_of, map_of, truth_of, labelled_by};
 ghost use Rattle.cbor_core.specs.Views as Views;
 ghost use Rattle.cbor_core.specs.declared.item.Item.{out-Item};
 
@@ -13,16 +13,6 @@ impl Item {
     {
         match self {
             Item::Unsigned(n) => Some(*n),
-            _ => None,
-        }
-    }
-
-    /// The n of a negative integer, which is -1-n. None exactly for every other item.
-    pub fn as_negative(&self) -> Option<u64>
-        ensures { result ≡ negative_of self.now }
-    {
-        match self {
-            Item::Negative(n) => Some(*n),
             _ => None,
         }
     }
@@ -67,16 +57,6 @@ impl Item {
         }
     }
 
-    /// The number of a tag, and the item that it is put on. None exactly for every other item.
-    pub fn as_tagged(&self) -> Option<(u64, &Item)>
-        ensures { option_map (λ x. (x.0, x.1.now)) result ≡ tagged_of self.now }
-    {
-        match self {
-            Item::Tag(n, content) => Some((*n, content.get())),
-            _ => None,
-        }
-    }
-
     /// The value of false or true. None exactly for every other item.
     pub fn as_truth(&self) -> Option<bool>
         ensures { result ≡ truth_of self.now }
@@ -84,16 +64,6 @@ impl Item {
         match self {
             Item::Truth(b) => Some(*b),
             _ => None,
-        }
-    }
-
-    /// Whether the item is null.
-    pub fn is_null(&self) -> bool
-        ensures { IsTrue result ↔ (self.now ≡ Item.Null) }
-    {
-        match self {
-            Item::Null => true,
-            _ => false,
         }
     }
 }

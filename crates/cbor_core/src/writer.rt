@@ -1,56 +1,12 @@
-ghost use Rattle.std.specs.Prelude.{◌≡◌, ◌↔◌, ◌≤◌, ◌<◌, ◌++◌, ◌^◌, ℕ, List, [], true, length, slice_range, drop, IsTrue, IfOk, OnOk, if◌then◌else◌};
+ghost use Rattle.std.specs.Prelude.{◌≡◌, ◌↔◌, ◌≤◌, ℕ, List, [], true, length, slice_range, drop, IsTrue, IfOk};
 ghost use Rattle.std.specs.List.{AllByRecursion};
-ghost use Rattle.cbor_core.specs.Spelling.{IsBytes, head, spelling, spellings, pair_spellings, bytes_below, IsProper, IsProperWithin, IsSpellable, Spells};
+ghost use Rattle.cbor_core.specs.Spelling.{spelling, spellings, pair_spellings, bytes_below, IsProper, IsProperWithin, IsSpellable, Spells};
 ghost use Rattle.cbor_core.specs.Writing.{Writes, PairsAre};
 
 use crate::item::{Item, Pair};
 use base_types::{CBOR_DEPTH_LIMIT, Octets, OrMemory};
+use cbor_heads::Writer;
 use std::alloc::Global;
-
-/// Writes the shortest head of a major type with an argument.
-#[tactic(auto, unfolding(crate::specs::Spelling::head))]
-fn push_head(out: &mut Vec<u8>, major: u8, n: u64) -> OrMemory<()>
-    requires { major < 8 }
-    ensures written { OnOk result (out.new.items ≡ out.old.items ++ head major n) }
-    ensures range { n < 2 ^ 64 }
-{
-    let first = 32 * major;
-    if n < 24 {
-        out.push(first + n as u8)?;
-    } else if n < 256 {
-        out.push(first + 24)?;
-        out.push(n as u8)?;
-    } else if n < 65536 {
-        out.push(first + 25)?;
-        out.extend_from_slice(&(n as u16).to_be_bytes())?;
-    } else if n < 4294967296 {
-        out.push(first + 26)?;
-        out.extend_from_slice(&(n as u32).to_be_bytes())?;
-    } else {
-        out.push(first + 27)?;
-        out.extend_from_slice(&n.to_be_bytes())?;
-    }
-    Ok(())
-}
-
-/// Writes a head and the bytes that it announces.
-fn push_string(out: &mut Vec<u8>, major: u8, bytes: &[u8]) -> OrMemory<()>
-    requires { major < 8 }
-    ensures written { OnOk result (out.new.items ≡ out.old.items ++ (head major (length bytes.now) ++ bytes.now)) }
-    ensures bytes { IsBytes bytes.now }
-    ensures len { length bytes.now < 2 ^ 64 }
-{
-    push_head(out, major, bytes.len() as u64)?;
-    out.extend_from_slice(bytes)?;
-    Ok(())
-}
-
-/// The one byte of false or true.
-fn truth_byte(b: bool) -> u8
-    ensures { result ≡ (if b then 245 else 244) }
-{
-    if b { 245 } else { 244 }
-}
 
 /// Whether the bytes from a place on are above those between two places before it.
 fn is_above(out: &[u8], last_start: usize, last_end: usize, start: usize) -> bool
@@ -67,63 +23,63 @@ fn is_above(out: &[u8], last_start: usize, last_end: usize, start: usize) -> boo
 /// Writes an item inside which so many containers may still stand. The answer is false exactly where
 /// it is not proper, and what was written is of no use then.
 #[cycle(writer)]
-fn push_item(out: &mut Vec<u8>, depth: u8, item: &Item) -> OrMemory<bool>
-    ensures { Writes result (IsSpellable depth item.now) (IsProperWithin depth item.now) out.old.items (spelling item.now) out.new.items }
+fn push_item(out: &mut Writer, depth: u8, item: &Item) -> OrMemory<bool>
+    ensures { Writes result (IsSpellable depth item.now) (IsProperWithin depth item.now) out.old (spelling item.now) out.new }
 {
     match item {
-        Item::Unsigned(n) => push_head(out, 0, *n)?,
-        Item::Negative(n) => push_head(out, 1, *n)?,
-        Item::Bytes(bytes) => push_string(out, 2, bytes.as_slice())?,
-        Item::Text(text) => push_string(out, 3, text.as_str().as_bytes())?,
+        Item::Unsigned(n) => out.unsigned(*n)?,
+        Item::Negative(n) => out.negative(*n)?,
+        Item::Bytes(bytes) => out.bytes(bytes.as_slice())?,
+        Item::Text(text) => out.text(text.as_str())?,
         Item::Array(members) => return push_array(out, depth, members.as_slice()),
         Item::Map(pairs) => return push_map(out, depth, pairs.as_slice()),
         Item::Tag(n, content) => return push_tag(out, depth, *n, content.get()),
-        Item::Truth(b) => out.push(truth_byte(*b))?,
-        Item::Null => out.push(246)?,
+        Item::Truth(b) => out.truth(*b)?,
+        Item::Null => out.null()?,
     }
     Ok(true)
 }
 
 /// Writes an array. It is refused where no container may stand.
 #[cycle(writer)]
-fn push_array(out: &mut Vec<u8>, depth: u8, members: &[Item]) -> OrMemory<bool>
-    ensures { Writes result (IsSpellable depth (Item.Array members.now)) (IsProperWithin depth (Item.Array members.now)) out.old.items (spelling (Item.Array members.now)) out.new.items }
+fn push_array(out: &mut Writer, depth: u8, members: &[Item]) -> OrMemory<bool>
+    ensures { Writes result (IsSpellable depth (Item.Array members.now)) (IsProperWithin depth (Item.Array members.now)) out.old (spelling (Item.Array members.now)) out.new }
 {
     if depth == 0 {
         return Ok(false);
     }
-    push_head(out, 4, members.len() as u64)?;
+    out.array(members.len() as u64)?;
     push_items(out, depth - 1, members)
 }
 
 /// Writes a map. It is refused where no container may stand.
 #[cycle(writer)]
-fn push_map(out: &mut Vec<u8>, depth: u8, pairs: &[Pair]) -> OrMemory<bool>
-    ensures { Writes result (IsSpellable depth (Item.Map pairs.now)) (IsProperWithin depth (Item.Map pairs.now)) out.old.items (spelling (Item.Map pairs.now)) out.new.items }
+fn push_map(out: &mut Writer, depth: u8, pairs: &[Pair]) -> OrMemory<bool>
+    ensures { Writes result (IsSpellable depth (Item.Map pairs.now)) (IsProperWithin depth (Item.Map pairs.now)) out.old (spelling (Item.Map pairs.now)) out.new }
 {
     if depth == 0 {
         return Ok(false);
     }
-    push_head(out, 5, pairs.len() as u64)?;
+    out.map(pairs.len() as u64)?;
     push_pairs(out, depth - 1, pairs)
 }
 
 /// Writes a tag and its content. It is refused where no container may stand.
 #[cycle(writer)]
-fn push_tag(out: &mut Vec<u8>, depth: u8, n: u64, content: &Item) -> OrMemory<bool>
-    ensures { Writes result (IsSpellable depth (Item.Tag n content.now)) (IsProperWithin depth (Item.Tag n content.now)) out.old.items (spelling (Item.Tag n content.now)) out.new.items }
+fn push_tag(out: &mut Writer, depth: u8, n: u64, content: &Item) -> OrMemory<bool>
+    ensures { Writes result (IsSpellable depth (Item.Tag n content.now)) (IsProperWithin depth (Item.Tag n content.now)) out.old (spelling (Item.Tag n content.now)) out.new }
 {
     if depth == 0 {
         return Ok(false);
     }
-    push_head(out, 6, n)?;
+    out.tag(n)?;
     push_item(out, depth - 1, content)
 }
 
 /// Writes items, one behind the other.
 #[cycle(writer)]
-fn push_items(out: &mut Vec<u8>, depth: u8, items: &[Item]) -> OrMemory<bool>
-    ensures { Writes result (AllByRecursion (IsSpellable depth) items.now) (AllByRecursion (IsProperWithin depth) items.now) out.old.items (spellings items.now) out.new.items }
+fn push_items(out: &mut Writer, depth: u8, items: &[Item]) -> OrMemory<bool>
+    ensures { Writes result (AllByRecursion (IsSpellable depth) items.now) (AllByRecursion (IsProperWithin depth) items.now) out.old (spellings items.now) out.new }
 {
     for item in items {
         if !push_item(out, depth, item)? {
@@ -136,18 +92,18 @@ fn push_items(out: &mut Vec<u8>, depth: u8, items: &[Item]) -> OrMemory<bool>
 /// Writes a key that is to be above the last one, whose encoding stands between two places.
 #[cycle(writer)]
 fn push_key(
-    out: &mut Vec<u8>,
+    out: &mut Writer,
     depth: u8,
     last_start: usize,
     last_end: usize,
     key: &Item,
 ) -> OrMemory<bool>
     requires last { last_start ≤ last_end }
-    requires within { last_end ≤ length out.old.items }
+    requires within { last_end ≤ length out.old }
     ensures { Writes result
-        (IsSpellable depth key.now × (bytes_below (slice_range out.old.items last_start last_end) (spelling key.now) ≡ true))
-        (IsProperWithin depth key.now × (bytes_below (slice_range out.old.items last_start last_end) (spelling key.now) ≡ true))
-        out.old.items (spelling key.now) out.new.items }
+        (IsSpellable depth key.now × (bytes_below (slice_range out.old last_start last_end) (spelling key.now) ≡ true))
+        (IsProperWithin depth key.now × (bytes_below (slice_range out.old last_start last_end) (spelling key.now) ≡ true))
+        out.old (spelling key.now) out.new }
 {
     let start = out.len();
     if !push_item(out, depth, key)? {
@@ -159,8 +115,8 @@ fn push_key(
 /// Writes pairs, one behind the other, whose keys are to ascend. Each key's encoding is compared where
 /// it was written.
 #[cycle(writer)]
-fn push_pairs(out: &mut Vec<u8>, depth: u8, pairs: &[Pair]) -> OrMemory<bool>
-    ensures { Writes result (PairsAre (IsSpellable depth) [] pairs.now) (PairsAre (IsProperWithin depth) [] pairs.now) out.old.items (pair_spellings pairs.now) out.new.items }
+fn push_pairs(out: &mut Writer, depth: u8, pairs: &[Pair]) -> OrMemory<bool>
+    ensures { Writes result (PairsAre (IsSpellable depth) [] pairs.now) (PairsAre (IsProperWithin depth) [] pairs.now) out.old (pair_spellings pairs.now) out.new }
 {
     let mut last_start = out.len();
     let mut last_end = last_start;
@@ -184,10 +140,10 @@ pub fn encode(alloc: Global, item: &Item) -> OrMemory<Octets>
     requires { IsProper item.now }
     ensures { IfOk result (λ bytes. Spells item.now bytes) }
 {
-    let mut out = Vec::new(alloc);
+    let mut out = Writer::new(alloc);
     let is_written = push_item(&mut out, CBOR_DEPTH_LIMIT, item)?;
     prove!(is_written);
-    Ok(Octets::from_vec(out))
+    Ok(out.into_octets())
 }
 
 /// Whether an item is proper: at most 16 containers stand inside one another, and the keys of each
@@ -200,6 +156,6 @@ pub fn is_proper(alloc: Global, item: &Item) -> OrMemory<bool>
     // Nothing spells any other.
     ensures unspelled { IfOk result (λ b. (bytes : List ℕ) → Spells item.now bytes → IsTrue b) }
 {
-    let mut scratch = Vec::new(alloc);
+    let mut scratch = Writer::new(alloc);
     push_item(&mut scratch, CBOR_DEPTH_LIMIT, item)
 }

@@ -5,17 +5,18 @@ use Rattle.std.specs.List.{AllByRecursion}
 use Rattle.std.proofs.lemmas.List.{drop_all, drop_more, append-nil}
 use Rattle.cbor_core.specs.declared.item.Item.{Item}
 use Rattle.cbor_core.specs.declared.item.Item.TheVariants as i
-use Rattle.cbor_core.specs.declared.fault.Fault.{Fault}
-use Rattle.cbor_core.specs.Place.{start}
+use Rattle.cbor_heads.specs.declared.fault.Fault.{Fault}
+use Rattle.cbor_heads.specs.Place.{start}
 use Rattle.cbor_core.specs.Spelling.{spelling, Spells}
 use Rattle.cbor_core.specs.Law.{SpellsFront, IsFaultyWhole}
 use Rattle.cbor_core.specs.Views.{unsigned_of, bytes_of, text_of, truth_of, array_of}
-use Rattle.cbor_core.proofs.Inputs.{reads, spelled_in_front}
+use Rattle.cbor_core.proofs.Public.Whole.{reads, spelled_in_front}
 use Rattle.cbor_core.proofs.Refused.{item_refuses}
 use Rattle.cbor_fields.specs.Views.{each_of, list_of, is_id, id_of}
 use Rattle.cbor_fields.specs.Written.{IsSpelled, Determines, whole, decoded_by, decoded}
 use Rattle.cbor_fields.specs.Law.{FormsDetermine}
-use Rattle.cbor_fields.proofs.Spelled.{members_spelled, unsigned_is, bytes_is, text_is, truth_is, array_is}
+use Rattle.cbor_fields.proofs.Spelled.{members_spelled}
+use Rattle.cbor_core.proofs.Public.Views.{unsigned_is, bytes_is, text_is, truth_is, array_is}
 
 pub unsigned_determines : Determines unsigned_of (λ n. i.Unsigned n)
 unsigned_determines x n s e = unsigned_is x n e

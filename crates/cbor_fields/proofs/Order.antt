@@ -9,10 +9,11 @@ use Rattle.cbor_core.specs.declared.item.Pair.{Pair}
 use Rattle.cbor_core.specs.declared.item.Item.TheOpen.{Item-F}
 use Rattle.cbor_core.specs.declared.item.Item.TheViews.{roll-Item, roll-out-Item}
 use Rattle.cbor_core.specs.declared.item.Item.TheVariants as i
-use Rattle.cbor_core.specs.Spelling.{head, spelling, spellings, pair_spellings, bytes_below, KeysAscend}
+use Rattle.cbor_heads.specs.Head.{head}
+use Rattle.cbor_core.specs.Spelling.{spelling, spellings, pair_spellings, bytes_below, KeysAscend}
 use Rattle.cbor_core.specs.Views.{labelled_by}
-use Rattle.cbor_core.proofs.Spell.{spelling_Unsigned, spelling_Negative, spelling_Bytes, spelling_Text, spelling_Array, spelling_Map, spelling_Tag, spelling_Truth, spelling_Null}
-use Rattle.cbor_core.proofs.Heads.{head_short, head_8, head_16, head_32, head_64}
+use Rattle.cbor_core.proofs.Public.Spell.{spelling_Unsigned, spelling_Negative, spelling_Bytes, spelling_Text, spelling_Array, spelling_Map, spelling_Tag, spelling_Truth, spelling_Null}
+use Rattle.cbor_heads.proofs.Public.Heads.{head_short, head_8, head_16, head_32, head_64}
 use Rattle.cbor_fields.specs.Written.{is_below_by}
 
 -- the first byte of a head: the major type, and with it the argument where that is short

@@ -5,8 +5,9 @@ use Rattle.cbor_core.specs.declared.item.Item.{Item, out-Item}
 use Rattle.cbor_core.specs.declared.item.Item.TheOpen.{Item-F}
 use Rattle.cbor_core.specs.declared.item.Item.TheVariants as i
 use Rattle.cbor_core.specs.declared.item.Pair.{Pair}
-use Rattle.cbor_core.specs.Place.{start}
-use Rattle.cbor_core.specs.Reading.{Outcome, item_at}
+use Rattle.cbor_heads.specs.Place.{start}
+use Rattle.cbor_heads.specs.Reading.{Outcome}
+use Rattle.cbor_core.specs.Reading.{item_at}
 use Rattle.cbor_core.specs.Spelling.{spelling, Spells}
 use Rattle.base_types.specs.declared.limits.TheConstants.{CBOR_DEPTH_LIMIT}
 

@@ -3,7 +3,7 @@ use Rattle.std.proofs.Common.{◌≡◌, ◌≤◌, ℕ, List, [], ◌∷◌, le
 use Rattle.std.specs.Prelude.{IfOk}
 use Rattle.cbor_core.specs.declared.item.Item.{Item}
 use Rattle.cbor_core.specs.Spelling.{Spells}
-use Rattle.cbor_core.proofs.Inputs.{one_for_one}
+use Rattle.cbor_core.proofs.Public.Whole.{one_for_one}
 use Rattle.evidence.specs.declared.ids.DeviceIds.{DeviceIds}
 use Rattle.hss_sign.specs.declared.params.KeyParams.{KeyParams}
 use Rattle.trust_anchors.specs.declared.anchors.Anchors.{Anchors}

@@ -5,9 +5,11 @@ use Rattle.std.specs.List.{AllZip}
 use Rattle.std.proofs.lemmas.List.{length-append}
 use Rattle.cbor_core.specs.declared.item.Item.{Item}
 use Rattle.cbor_core.specs.declared.item.Item.TheVariants as i
-use Rattle.cbor_core.specs.Spelling.{head, spelling, spellings}
-use Rattle.cbor_core.proofs.Spell.{spelling_Unsigned, spelling_Negative, spelling_Bytes, spelling_Map, pair_spelling_out}
-use Rattle.cbor_core.proofs.Sizes.{head_size, number_size, string_size, array_size}
+use Rattle.cbor_heads.specs.Head.{head}
+use Rattle.cbor_core.specs.Spelling.{spelling, spellings}
+use Rattle.cbor_core.proofs.Public.Spell.{spelling_Unsigned, spelling_Negative, spelling_Bytes, spelling_Map, pair_spelling_out}
+use Rattle.cbor_heads.proofs.Public.Sizes.{head_size}
+use Rattle.cbor_core.proofs.Public.Sizes.{number_size, string_size, array_size}
 use Rattle.lms_core.proofs.Keys.{fields_at}
 use Rattle.lms_core.specs.Bytes.{u32_bytes}
 use Rattle.hss_verify.specs.Hss.{IsHssPublic}

@@ -9,14 +9,15 @@ use Rattle.cbor_core.specs.declared.item.Item.TheViews.{roll-Item, roll-out-Item
 use Rattle.cbor_core.specs.declared.item.Item.TheVariants as i
 use Rattle.cbor_core.specs.Spelling.{spelling, bytes_below, Spells}
 use Rattle.cbor_core.specs.Views.{bytes_of, map_of}
-use Rattle.cbor_core.proofs.KeyOrder.{nothing_below}
-use Rattle.cbor_core.proofs.Inputs.{one_for_one}
+use Rattle.cbor_core.proofs.Public.KeyOrder.{nothing_below}
+use Rattle.cbor_core.proofs.Public.Whole.{one_for_one}
 use Rattle.cose_core.specs.declared.sign1.Sign1.{Sign1}
 use Rattle.cose_core.specs.declared.labels.TheConstants.{SIGN1_TAG}
 use Rattle.cose_core.specs.Headers.{Wraps}
 use Rattle.cose_core.specs.Sign1.{payload_item, untagged, tagged, HasForm}
 use Rattle.cose_core.specs.Reading.{payload_of, members_by, content_by, content_of, array_members, form_of}
-use Rattle.cose_core.proofs.Views.{bytes_is, map_is, payload_is, bytes_back, map_back, payload_back, same_map}
+use Rattle.cbor_core.proofs.Public.Views.{bytes_is, map_is, bytes_back, map_back, same_map}
+use Rattle.cose_core.proofs.Views.{payload_is, payload_back}
 
 -- ---- the members
 

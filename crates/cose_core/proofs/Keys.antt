@@ -3,13 +3,13 @@ use Rattle.std.proofs.Common.{◌≡◌, ℕ, List, [], ◌∷◌, ◌++◌, Opt
 use Rattle.std.specs.Prelude.{IfOk, IfErr, option_map}
 use Rattle.cbor_core.specs.declared.item.Item.{Item}
 use Rattle.cbor_core.specs.declared.item.Pair.{Pair}
-use Rattle.cbor_core.specs.declared.fault.Fault.{Fault}
+use Rattle.cbor_heads.specs.declared.fault.Fault.{Fault}
 use Rattle.cbor_core.specs.declared.item.Item.TheVariants as i
 use Rattle.cbor_core.specs.Spelling.{Spells, IsProper}
 use Rattle.cbor_core.specs.Views.{field, bytes_of}
 use Rattle.cbor_core.specs.Law.{IsFaultyWhole}
-use Rattle.cbor_core.proofs.KeyOrder.{layers}
-use Rattle.cbor_core.proofs.Inputs.{one_for_one}
+use Rattle.cbor_core.proofs.Public.KeyOrder.{layers}
+use Rattle.cbor_core.proofs.Public.Whole.{one_for_one}
 use Rattle.cose_core.specs.declared.key.CoseKey.{CoseKey}
 use Rattle.cose_core.specs.declared.fault.KeyFault.{KeyFault}
 use Rattle.cose_core.specs.declared.fault.KeyFault.TheVariants as faults
@@ -17,7 +17,7 @@ use Rattle.cose_core.specs.declared.labels.TheConstants.{ALG_HSS_LMS, KEY_KTY, K
 use Rattle.cbor_fields.specs.Views.{negative_field}
 use Rattle.cose_core.specs.Headers.{bytes_if}
 use Rattle.cose_core.specs.Key.{IsKey, IsKeyItem, KeyIs, KeyRefusedAs, IsKeyFound, IsKeyRefused, kid_if, KeyReadAs, kid_pairs, written_key}
-use Rattle.cose_core.proofs.Views.{bytes_is, bytes_back, same_bytes, same_map}
+use Rattle.cbor_core.proofs.Public.Views.{bytes_is, bytes_back, same_bytes, same_map}
 
 -- ---- the parts
 

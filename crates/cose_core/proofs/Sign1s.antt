@@ -3,10 +3,11 @@ use Rattle.std.proofs.Common.{◌≡◌, ℕ, List, [], ◌∷◌, ◌++◌, Som
 use Rattle.std.specs.Prelude.{IfOk, IfErr}
 use Rattle.cbor_core.specs.declared.item.Item.{Item}
 use Rattle.cbor_core.specs.declared.item.Pair.{Pair}
-use Rattle.cbor_core.specs.declared.fault.Fault.{Fault}
-use Rattle.cbor_core.specs.Spelling.{head, spelling, Spells}
+use Rattle.cbor_heads.specs.declared.fault.Fault.{Fault}
+use Rattle.cbor_heads.specs.Head.{head}
+use Rattle.cbor_core.specs.Spelling.{spelling, Spells}
 use Rattle.cbor_core.specs.Law.{IsFaultyWhole}
-use Rattle.cbor_core.proofs.Spell.{spelling_Tag}
+use Rattle.cbor_core.proofs.Public.Spell.{spelling_Tag}
 use Rattle.cose_core.specs.declared.sign1.Sign1.{Sign1}
 use Rattle.cose_core.specs.declared.fault.CoseFault.{CoseFault}
 use Rattle.cose_core.specs.declared.fault.CoseFault.TheVariants as faults

@@ -7,7 +7,7 @@ use Rattle.std.proofs.lemmas.Bool.{cases_lt, cases_eq, le-leb}
 use Rattle.std.proofs.lemmas.Fmt.{decimal_is_IsNumeral_wide}
 use Rattle.std.proofs.lemmas.List.Sums.{take_while-cons}
 use Rattle.std.proofs.lemmas.Str.Parse.{digit_at}
-use Rattle.cbor_core.specs.Place.{Place, skip}
+use Rattle.cbor_heads.specs.Place.{Place, skip}
 use Rattle.diag_text.specs.Printed.{hex_digit, hex_byte, escaped, listed}
 use Rattle.diag_text.specs.Reading.{Outcome, begins, behind, digits, same, number_of, number_at, hex_value, hex_pair, hex_guess, text_guess, pieces_at, parts_at, Reader}
 use Rattle.diag_text.specs.Faulty.{NoDigit, Stops}

@@ -2,7 +2,7 @@
 use Rattle.std.proofs.Common.{◌≡◌, ℕ, zero, suc, ◌-◌, ◌<◌, Bool, true, false, List, refl, arith, Some, None}
 use Rattle.std.specs.Str.{is_utf8, IsUtf8}
 use Rattle.std.proofs.lemmas.Str.{is_utf8-from_IsUtf8, IsUtf8-from_is_utf8}
-use Rattle.cbor_core.specs.Place.{Place}
+use Rattle.cbor_heads.specs.Place.{Place}
 use Rattle.diag_text.specs.Reading.{item_by, item_at, inside}
 
 pub inside_none : (d : ℕ) → d ≡ 0 → inside d ≡ None

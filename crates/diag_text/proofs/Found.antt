@@ -8,12 +8,12 @@ use Rattle.std.proofs.lemmas.Str.{IsUtf8-from_is_utf8}
 use Rattle.cbor_core.specs.declared.item.Item.{Item, out-Item}
 use Rattle.cbor_core.specs.declared.item.Item.TheVariants as i
 use Rattle.cbor_core.specs.declared.item.Pair.{Pair}
-use Rattle.cbor_core.specs.Place.{Place, skip}
+use Rattle.cbor_heads.specs.Place.{Place, skip}
 use Rattle.cbor_core.specs.Faulty.{last_key}
 use Rattle.cbor_core.specs.Spelling.{spelling, bytes_below, KeysAscend, IsSpellable, IsProper, IsProperWithin}
-use Rattle.cbor_core.proofs.Parts.{proper_more}
+use Rattle.cbor_core.proofs.Public.Parts.{proper_more}
 use Rattle.diag_text.proofs.Loops.{last_key_more, member_is}
-use Rattle.cbor_core.proofs.Levels.{IsWholeBy, to_spellable}
+use Rattle.cbor_core.proofs.Public.Levels.{IsWholeBy, to_spellable}
 use Rattle.diag_text.specs.Printed.{hex_byte, escaped, listed, printed, pair_printed}
 use Rattle.diag_text.specs.Reading.{Reader, ◌>>=◌, begins, behind, hex_value, hex_guess, text_guess, bytes_at, text_at, parts_at, inside_at, member_at, key_at, pair_at, array_at, map_at, tag_at, number_at, number_or_tag, negative_by, negative_at, text_by, string_at, item_by, item_at}
 use Rattle.diag_text.proofs.Texts.{printed_Unsigned, printed_Negative, printed_Bytes, printed_Text, printed_Array, printed_Map, printed_Tag, printed_Truth, printed_Null, pair_printed_out}

@@ -1,7 +1,6 @@
 -- Where the parts of a container come to a halt.
 use Rattle.std.proofs.Common.{◌≡◌, ℕ, zero, suc, ◌+◌, ◌^◌, ◌<◌, ◌≤◌, false, cond, List, [], ◌∷◌, ◌++◌, length, Ok, Err, refl, sym, ap, subst, ◌∙◌, append_assoc, append-nil, arith, inl, inr, ◌⊎◌, codes, length-append}
-use Rattle.cbor_core.specs.Place.{Place, skip}
-use Rattle.cbor_core.specs.Faulty.{behind as place_behind}
+use Rattle.cbor_heads.specs.Place.{Place, skip, behind as place_behind}
 use Rattle.diag_text.specs.Reading.{Reader, begins, behind, parts_at}
 use Rattle.diag_text.specs.Faulty.{followed}
 use Rattle.diag_text.proofs.Fronts.{stops_comma}

@@ -8,8 +8,8 @@ use Rattle.std.proofs.lemmas.Fmt.{decimal_is_IsNumeral_wide}
 use Rattle.std.proofs.lemmas.Str.Parse.{digit_at}
 use Rattle.cbor_core.specs.declared.item.Item.{Item}
 use Rattle.cbor_core.specs.declared.item.Item.TheVariants as i
-use Rattle.cbor_core.specs.Place.{Place, skip}
-use Rattle.cbor_core.proofs.Levels.{to_spellable}
+use Rattle.cbor_heads.specs.Place.{Place, skip}
+use Rattle.cbor_core.proofs.Public.Levels.{to_spellable}
 use Rattle.diag_text.specs.Printed.{hex_byte, escaped}
 use Rattle.diag_text.specs.Reading.{Outcome, Reader, ◌>>=◌, begins, digits, number_of, number_by, number_at, hex_guess, text_guess, pieces_at, bytes_at, text_at, array_at, map_at, tag_at, number_or_tag, negative_by, text_by, item_by, item_at}
 use Rattle.diag_text.specs.Faulty.{HasScalar, HasTag, Opens}

@@ -3,7 +3,7 @@ use Rattle.std.proofs.Common.{◌≡◌, ℕ, suc, ◌+◌, ◌-◌, ◌<◌, �
 use Rattle.cbor_core.specs.declared.item.Item.{Item}
 use Rattle.cbor_core.specs.declared.item.Pair.{Pair}
 use Rattle.cbor_core.specs.Spelling.{spelling}
-use Rattle.cbor_core.specs.Place.{Place, skip}
+use Rattle.cbor_heads.specs.Place.{Place, skip}
 use Rattle.cbor_core.specs.Faulty.{last_key}
 use Rattle.diag_text.specs.declared.fault.DiagFault.{DiagFault}
 use Rattle.diag_text.specs.declared.fault.DiagFault.TheVariants as faults

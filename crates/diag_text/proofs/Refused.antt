@@ -3,9 +3,9 @@ use Rattle.std.proofs.Common.{◌≡◌, ℕ, zero, suc, ◌+◌, ◌^◌, ◌<�
 use Rattle.std.specs.List.{AllByRecursion}
 use Rattle.cbor_core.specs.declared.item.Item.{Item}
 use Rattle.cbor_core.specs.declared.item.Pair.{Pair}
-use Rattle.cbor_core.specs.Place.{Place, skip}
+use Rattle.cbor_heads.specs.Place.{Place, skip, behind as place_behind}
 use Rattle.cbor_core.specs.Spelling.{spelling, bytes_below, IsSpellable}
-use Rattle.cbor_core.specs.Faulty.{behind as place_behind, last_key}
+use Rattle.cbor_core.specs.Faulty.{last_key}
 use Rattle.diag_text.specs.Printed.{printed, pair_printed}
 use Rattle.diag_text.specs.Reading.{Outcome, Reader, ◌>>=◌, begins, behind, parts_at, inside_at, member_at, pair_at, tag_at, plain_at, item_by, item_at}
 use Rattle.diag_text.specs.Faulty.{Starts, Stands, HasTag, Begins, followed, NeitherMark, PartFault, ArrayFault, ColonFault, KeyFault, MapFault, TagFault, Faulty}

@@ -11,10 +11,11 @@ use Rattle.cbor_core.specs.declared.item.Item.TheOpen.{Item-F}
 use Rattle.cbor_core.specs.declared.item.Item.TheViews.{roll-Item, roll-out-Item}
 use Rattle.cbor_core.specs.declared.item.Item.TheVariants as i
 use Rattle.cbor_core.specs.declared.item.Pair.{Pair}
-use Rattle.cbor_core.specs.Place.{Place}
+use Rattle.cbor_heads.specs.Place.{Place}
 use Rattle.cbor_core.specs.Faulty.{last_key}
-use Rattle.cbor_core.specs.Spelling.{spelling, bytes_below, KeysAscend, IsBytes, IsSpellable}
-use Rattle.cbor_core.proofs.Levels.{IsWholeBy, from_spellable, has_room, IsPart}
+use Rattle.cbor_core.specs.Spelling.{spelling, bytes_below, KeysAscend, IsSpellable}
+use Rattle.base_types.specs.Bytes.{IsBytes}
+use Rattle.cbor_core.proofs.Public.Levels.{IsWholeBy, from_spellable, has_room, IsPart}
 use Rattle.diag_text.specs.Printed.{hex_byte, escaped, listed, printed, pair_printed}
 use Rattle.diag_text.specs.Reading.{Outcome, Reader, begins, hex_guess, text_guess, inside_at, member_at, pair_at, plain_at, item_by, item_at}
 use Rattle.diag_text.proofs.Texts.{printed_Unsigned, printed_Negative, printed_Bytes, printed_Text, printed_Array, printed_Map, printed_Tag, printed_Truth, printed_Null, pair_printed_out}

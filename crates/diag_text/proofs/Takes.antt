@@ -3,8 +3,8 @@ use Rattle.std.proofs.Common.{◌≡◌, ℕ, zero, suc, ◌+◌, ◌^◌, ◌<�
 use Rattle.std.specs.List.{flat_map}
 use Rattle.std.specs.Str.Parse.{digits_value}
 use Rattle.std.proofs.lemmas.Bool.{cases_Bool, and_parts, eqb-true}
-use Rattle.cbor_core.specs.Place.{Place, skip}
-use Rattle.cbor_core.specs.Spelling.{IsBytes}
+use Rattle.cbor_heads.specs.Place.{Place, skip}
+use Rattle.base_types.specs.Bytes.{IsBytes}
 use Rattle.diag_text.specs.Printed.{listed}
 use Rattle.diag_text.specs.Reading.{Outcome, Reader, ◌>>=◌, begins, behind, digits, same, if_decimal, number_of, number_by, number_at, pieces_at, parts_at}
 use Rattle.diag_text.specs.Faulty.{NoDigit}

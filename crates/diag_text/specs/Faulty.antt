@@ -6,9 +6,9 @@ use Rattle.base_types.specs.declared.limits.TheConstants.{CBOR_DEPTH_LIMIT}
 use Rattle.cbor_core.specs.declared.item.Item.{Item, out-Item}
 use Rattle.cbor_core.specs.declared.item.Item.TheOpen.{Item-F}
 use Rattle.cbor_core.specs.declared.item.Pair.{Pair}
-use Rattle.cbor_core.specs.Place.{Place, start}
+use Rattle.cbor_heads.specs.Place.{Place, start, behind}
 use Rattle.cbor_core.specs.Spelling.{spelling, bytes_below, KeysAscend, IsSpellable}
-use Rattle.cbor_core.specs.Faulty.{behind, last_key}
+use Rattle.cbor_core.specs.Faulty.{last_key}
 use Rattle.diag_text.specs.Printed.{printed, pair_printed}
 
 -- ---- what stands in front of a text

@@ -8,7 +8,7 @@ use Rattle.std.specs.Str.Parse.{digits_value}
 use Rattle.cbor_core.specs.declared.item.Item.{Item}
 use Rattle.cbor_core.specs.declared.item.Item.TheVariants as i
 use Rattle.cbor_core.specs.declared.item.Pair.{Pair}
-use Rattle.cbor_core.specs.Place.{Place, start, skip}
+use Rattle.cbor_heads.specs.Place.{Place, start, skip}
 use Rattle.cbor_core.specs.Spelling.{spelling, bytes_below}
 use Rattle.cbor_core.specs.Faulty.{last_key}
 use Rattle.diag_text.specs.declared.fault.DiagFault.{DiagFault}

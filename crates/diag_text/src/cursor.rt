@@ -1,5 +1,5 @@
 ghost use Rattle.std.specs.Prelude.{◌≡◌, ◌≤◌, ◌<◌, ◌^◌, length, if◌then◌else◌};
-ghost use Rattle.cbor_core.specs.Place.{start, skip};
+ghost use Rattle.cbor_heads.specs.Place.{start, skip};
 ghost use Rattle.diag_text.specs.Reading.{begins};
 
 use std::marker::Model;
@@ -13,7 +13,7 @@ pub struct Cursor<'a> {
 
 impl<'a> Model for Cursor<'a> {
     ghost use Rattle.std.specs.Prelude.{◌+◌, ◌<◌, ◌^◌, length};
-    ghost use Rattle.cbor_core.specs.Place.{Place};
+    ghost use Rattle.cbor_heads.specs.Place.{Place};
 
     ghost Value = { Place };
 

@@ -1,6 +1,6 @@
 ghost use Rattle.std.specs.Prelude.{◌≡◌, ◌≤◌, ◌<◌, ◌^◌, ℕ, [], ◌∷◌, length, codes, IfOk, OnOk, IsOk, MatchResult, ◌↔◌, List};
 ghost use Rattle.std.specs.Str.{IsUtf8, IsValidUpTo};
-ghost use Rattle.cbor_core.specs.Place.{start};
+ghost use Rattle.cbor_heads.specs.Place.{start};
 ghost use Rattle.cbor_core.specs.declared.item.Item.{Item};
 ghost use Rattle.cbor_core.specs.declared.item.Pair.{Pair};
 ghost use Rattle.cbor_core.specs.Faulty.{last_key};

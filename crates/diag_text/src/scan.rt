@@ -1,6 +1,6 @@
 ghost use Rattle.std.specs.Prelude.{◌≡◌, ◌^◌, ◌<◌, ◌≤◌, ◌+◌, [], length, slice_index, Some, None, codes, if◌then◌else◌, IfSome, IfOk};
 ghost use Rattle.std.specs.Str.Parse.{AllDigits};
-ghost use Rattle.cbor_core.specs.Place.{skip};
+ghost use Rattle.cbor_heads.specs.Place.{skip};
 ghost use Rattle.diag_text.specs.Printed.{hex_digit, hex_byte, escaped};
 ghost use Rattle.diag_text.specs.Reading.{Gives, begins, digits, number_of, number_by, number_at, value_below, hex_value, hex_pair, hex_guess, text_guess, pieces_at, bytes_at, text_at};
 

@@ -3,15 +3,14 @@ use Rattle.std.proofs.Common.{◌≡◌, ◌⊎◌, ℕ, ◌<◌, List, [], leng
 use Rattle.std.specs.Prelude.{Some, None, Result, Ok, Err}
 use Rattle.std.proofs.lemmas.List.{append-nil, take_at}
 use Rattle.cbor_core.specs.declared.item.Item.{Item}
-use Rattle.cbor_core.specs.declared.fault.Fault.{Fault}
-use Rattle.cbor_core.specs.declared.fault.Why.{Why}
-use Rattle.cbor_core.specs.Place.{Place, start}
+use Rattle.cbor_heads.specs.declared.fault.Fault.{Fault}
+use Rattle.cbor_heads.specs.declared.fault.Why.{Why}
+use Rattle.cbor_heads.specs.Place.{Place, start}
 use Rattle.cbor_core.specs.Spelling.{Spells}
 use Rattle.cbor_core.specs.Law.{SpellsFront, IsFaulty, IsFaultyWhole, HasExtra}
 use Rattle.cbor_core.specs.Reading.{item_at}
-use Rattle.cbor_core.proofs.Heads.{ok_is}
-use Rattle.cbor_core.proofs.Inputs.{one_for_one, reads}
-use Rattle.cbor_core.proofs.Faults.{err_is}
+use Rattle.cbor_heads.proofs.Public.Outcomes.{ok_is, err_is}
+use Rattle.cbor_core.proofs.Public.Whole.{one_for_one, reads}
 use Rattle.cbor_core.proofs.Refused.{item_refuses}
 use Rattle.teep_messages.specs.declared.message.Message.{Message}
 use Rattle.teep_messages.specs.declared.fault.MessageFault.{MessageFault}

@@ -4,7 +4,7 @@ use Rattle.std.specs.Prelude.{Option, Some, None}
 use Rattle.std.proofs.lemmas.Bool.{cases_lt}
 use Rattle.std.proofs.lemmas.List.{append-nil, take_at}
 use Rattle.cbor_core.specs.declared.item.Item.{Item}
-use Rattle.cbor_core.specs.declared.fault.Why.TheVariants as why
+use Rattle.cbor_heads.specs.declared.fault.Why.TheVariants as why
 use Rattle.cbor_core.specs.Spelling.{Spells}
 use Rattle.cbor_core.specs.Law.{SpellsFront, OneItem, OneFault}
 use Rattle.cbor_core.proofs.Inputs.{exactly_one as one_of_two}

@@ -1,10 +1,10 @@
 -- What `show` prints of a file, and how it ends.
 use Rattle.std.specs.Prelude.{◌≡◌, ◌≤◌, ◌<◌, ◌⊎◌, ◌++◌, ℕ, List, codes, length, Option, Some}
 use Rattle.cbor_core.specs.declared.item.Item.{Item}
-use Rattle.cbor_core.specs.declared.fault.Fault.{Fault}
+use Rattle.cbor_heads.specs.declared.fault.Fault.{Fault}
 use Rattle.cbor_core.specs.Spelling.{Spells}
 use Rattle.cbor_core.specs.Law.{IsFaultyWhole}
-use Rattle.cbor_core.specs.Printing.{text as fault_text}
+use Rattle.cbor_heads.specs.Printing.{text as fault_text}
 use Rattle.diag_text.specs.Printed.{printed}
 use Rattle.teep_tool.specs.Contents.{Contents}
 use Rattle.teep_tool.specs.Calls.{IsLong, PrintsSome}

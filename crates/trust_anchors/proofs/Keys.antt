@@ -6,7 +6,7 @@ use Rattle.cbor_core.specs.Views.{bytes_of}
 use Rattle.cose_core.specs.declared.key.CoseKey.{CoseKey}
 use Rattle.cose_core.specs.Key.{KeyIs}
 use Rattle.cose_core.proofs.Keys.{one_key_of_bytes}
-use Rattle.cose_core.proofs.Views.{bytes_is, bytes_back, same_bytes}
+use Rattle.cbor_core.proofs.Public.Views.{bytes_is, bytes_back, same_bytes}
 use Rattle.hss_verify.specs.Hss.{IsHssPublic}
 use Rattle.trust_anchors.specs.Anchors.{IsString, Wraps, IsGood, IsBad}
 

@@ -5,7 +5,7 @@ use Rattle.std.specs.List.{AllByRecursion, AllZip}
 use Rattle.cbor_core.specs.declared.item.Item.{Item}
 use Rattle.cbor_core.specs.declared.item.Item.TheVariants as i
 use Rattle.cbor_core.specs.Views.{array_of}
-use Rattle.cose_core.proofs.Views.{array_back}
+use Rattle.cbor_core.proofs.Public.Views.{array_back}
 use Rattle.trust_anchors.specs.declared.anchors.Anchors.{Anchors}
 use Rattle.base_types.specs.declared.limits.TheConstants.{ANCHORS_LIMIT}
 use Rattle.trust_anchors.specs.declared.role.Role.{Role}

@@ -1,8 +1,8 @@
 -- The printed form of a fault.
 use Rattle.std.specs.Prelude.{ℕ, List, ◌++◌, codes, decimal}
-use Rattle.cbor_core.specs.declared.fault.Fault.{Fault}
-use Rattle.cbor_core.specs.declared.fault.Why.{Why}
-use Rattle.cbor_core.specs.declared.fault.Why.TheVariants as why
+use Rattle.cbor_heads.specs.declared.fault.Fault.{Fault}
+use Rattle.cbor_heads.specs.declared.fault.Why.{Why}
+use Rattle.cbor_heads.specs.declared.fault.Why.TheVariants as why
 
 -- a cause by its name
 abbrev pub name : Why → List ℕ

@@ -5,7 +5,8 @@ use Rattle.std.specs.Str.{IsUtf8}
 use Rattle.cbor_core.specs.declared.item.Item.{Item, out-Item}
 use Rattle.cbor_core.specs.declared.item.Pair.{Pair}
 use Rattle.cbor_core.specs.declared.item.Item.TheOpen.{Item-F}
-use Rattle.cbor_core.specs.Spelling.{IsBytes, KeysAscend, IsProperBy, IsProperWithin, IsInRangeBy, HasRangesWithin, IsSpellable}
+use Rattle.base_types.specs.Bytes.{IsBytes}
+use Rattle.cbor_core.specs.Spelling.{KeysAscend, IsProperBy, IsProperWithin, IsInRangeBy, HasRangesWithin, IsSpellable}
 
 -- A level in range whose parts meet P; room says whether a container may stand here.
 abbrev pub IsWholeBy : Bool → (Item → Type 0) → Item-F Item Pair → Type 0
