@@ -1,5 +1,6 @@
 //! Expected values come from a program of another language, written from RFC 8554.
 
+mod published;
 mod signer;
 
 use super::*;
@@ -114,6 +115,35 @@ fn reads_keys_of_known_types(rt: HostRuntime) {
             "{value} at {place}"
         );
     }
+}
+
+#[test]
+fn published_signatures(rt: HostRuntime) -> Result<(), Fail> {
+    let lower_key = decoded(rt.alloc(), published::LOWER_KEY)?;
+    let lower = decoded(rt.alloc(), published::LOWER_SIGNATURE)?;
+    let mut alone = Vec::new(rt.alloc());
+    alone.extend_from_slice(&[0; 4])?;
+    alone.extend_from_slice(&lower)?;
+    let mut below = Vec::new(rt.alloc());
+    below.extend_from_slice(&[0, 0, 0, 1])?;
+    below.extend_from_slice(&decoded(rt.alloc(), published::UPPER_SIGNATURE)?)?;
+    below.extend_from_slice(&lower_key)?;
+    below.extend_from_slice(&lower)?;
+
+    let mut lower_public = Vec::new(rt.alloc());
+    lower_public.extend_from_slice(&[0, 0, 0, 1])?;
+    lower_public.extend_from_slice(&lower_key)?;
+    let public = decoded(rt.alloc(), published::KEY)?;
+    for (key, signature) in [(&lower_public, &alone), (&public, &below)] {
+        let key = read(key)?;
+        assert!(rt; hss_verify(&key, published::MESSAGE, signature));
+        assert!(rt; !hss_verify(&key, MESSAGE, signature));
+    }
+    Ok(())
+}
+
+fn decoded(alloc: Global, text: &str) -> Result<Vec<u8>, Fail> {
+    Ok(hex::decode(alloc, text)?)
 }
 
 fn read(bytes: &[u8]) -> Result<HssPublic, Fail> {

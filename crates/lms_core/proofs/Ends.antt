@@ -7,7 +7,7 @@ use Rattle.lms_core.specs.Chains.{chain}
 use Rattle.lms_core.specs.Digits.{coef}
 use Rattle.lms_core.specs.OneTime.{chain_end}
 use Rattle.lms_core.specs.Layout.{hashes_in}
-use Rattle.lms_core.proofs.Hashes.{concat-hashes_in, get_or-hashes_in, length-hashes_in}
+use Rattle.lms_core.proofs.Public.Hashes.{concat-hashes_in, get_or-hashes_in, length-hashes_in}
 use Rattle.lms_core.proofs.Slots.{slot}
 
 -- bytes whose strings are the ends of the chains

@@ -7,7 +7,7 @@ use Rattle.lms_core.specs.declared.parameters.OtsParams.{OtsParams}
 use Rattle.lms_core.specs.declared.public_key.PublicKey.{PublicKey}
 use Rattle.lms_core.specs.Parameters.{IsHeight, lms_table, ots_table}
 use Rattle.lms_core.specs.Bytes.{u32_at, u32_bytes}
-use Rattle.lms_core.proofs.Parts.{back_at, part_at, parts_join, u32_at_bytes, u32_bytes_at}
+use Rattle.lms_core.proofs.Public.Parts.{back_at, part_at, parts_join, u32_at_bytes, u32_bytes_at}
 use Rattle.lms_core.specs.Lms.{IsKnown, Spells, public_key_bytes}
 
 -- a type in the table fits its four bytes

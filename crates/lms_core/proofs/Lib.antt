@@ -1,9 +1,8 @@
+pub mod Public
 pub mod Rows
 pub mod Sums
 pub mod Inputs
 pub mod Steps
-pub mod Parts
-pub mod Hashes
 pub mod Slots
 pub mod Ends
 pub mod Turned

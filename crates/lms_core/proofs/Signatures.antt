@@ -6,11 +6,11 @@ use Rattle.std.proofs.lemmas.List.{append_assoc, drop_at, length-append, length-
 use Rattle.lms_core.specs.declared.public_key.PublicKey.{PublicKey}
 use Rattle.lms_core.specs.Bytes.{u32_bytes}
 use Rattle.lms_core.specs.Parameters.{IsHeight, lms_table, ots_table}
-use Rattle.lms_core.specs.Layout.{HasForm, chains_end, hashes_in, signature_at}
+use Rattle.lms_core.specs.Layout.{HasForm, IsFormed, chains_end, hashes_in, signature_at}
 use Rattle.lms_core.specs.Lms.{Fits, IsKnown, LmsValid, Signature, Spells, root_candidate, signature_bytes, signature_length}
-use Rattle.lms_core.proofs.Hashes.{AllHashes-hashes_in, concat-hashes_in, hashes_in-concat, length-concat, length-hashes_in}
+use Rattle.lms_core.proofs.Public.Hashes.{AllHashes-hashes_in, concat-hashes_in, hashes_in-concat, length-concat, length-hashes_in}
 use Rattle.lms_core.proofs.Keys.{height_of, lms_type_fits, one_key, ots_type_fits}
-use Rattle.lms_core.proofs.Parts.{length-part, part_at, parts_join, u32_at_bytes, u32_bytes_at}
+use Rattle.lms_core.proofs.Public.Parts.{length-part, part_at, parts_join, u32_at_bytes, u32_bytes_at}
 
 -- ---- what is read is spelled
 
@@ -168,6 +168,12 @@ read_parts key parts bytes known fits spelled =
 
 -- ---- validity, by what is read
 
+-- of one public key there is one form
+pub form_under : (public bytes : List ℕ) (key : PublicKey) → Spells public key → IsFormed public bytes → HasForm key bytes
+form_under public bytes key spells formed =
+    let P : PublicKey → Type 0 = λ k. HasForm k bytes in
+    subst P (one_key public formed.key key formed.public_key spells) formed.form
+
 -- a signature of the form that leads to the key's root is valid
 pub valid_at : (public message bytes : List ℕ) (key : PublicKey) → ((i : ℕ) → get_or bytes i 0 < 256) → Spells public key → HasForm key bytes → root_candidate key message (signature_at key bytes) ≡ key.root → LmsValid public message bytes
 valid_at public message bytes key fits spells form root = record {
@@ -179,9 +185,10 @@ valid_at public message bytes key fits spells form root = record {
   root = root;
 }
 
--- a valid signature has the form, and leads to the key's root
+-- a valid signature has the form, is spelled by its parts, and leads to the key's root
 pub record IsAccepted (key : PublicKey) (message bytes : List ℕ) : Type 0 where
   pub form : HasForm key bytes
+  pub spelled : bytes ≡ signature_bytes (signature_at key bytes)
   pub root : root_candidate key message (signature_at key bytes) ≡ key.root
 
 pub accepted : (public message bytes : List ℕ) (key : PublicKey) → Spells public key → LmsValid public message bytes → IsAccepted key message bytes
@@ -191,5 +198,6 @@ accepted public message bytes key spells valid =
     let P : PublicKey → Type 0 = λ k. IsAccepted k message bytes in
     subst P same (record {
       form = read.form;
+      spelled = valid.spelled ∙ ap signature_bytes (sym read.same);
       root = ap (root_candidate valid.key message) read.same ∙ valid.root;
     })

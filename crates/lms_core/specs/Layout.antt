@@ -2,7 +2,7 @@
 use Rattle.std.specs.Prelude.{◌≡◌, ℕ, zero, suc, ◌+◌, ◌*◌, ◌^◌, ◌<◌, List, [], ◌∷◌, length, take, drop, slice_range}
 use Rattle.lms_core.specs.declared.public_key.PublicKey.{PublicKey}
 use Rattle.lms_core.specs.Bytes.{u32_at}
-use Rattle.lms_core.specs.Lms.{Signature, signature_length}
+use Rattle.lms_core.specs.Lms.{Signature, Spells, signature_length}
 
 -- the first n strings of 32 bytes
 abbrev pub hashes_in : ℕ → List ℕ → List (List ℕ)
@@ -19,6 +19,12 @@ pub record HasForm (key : PublicKey) (bytes : List ℕ) : Type 0 where
   pub leaf : u32_at bytes 0 < 2 ^ key.height
   pub ots_type : u32_at bytes 4 ≡ key.ots_type
   pub lms_type : u32_at bytes (chains_end key) ≡ key.lms_type
+
+-- the signature has the length and the types that the public key gives it, and a leaf of its tree, both as byte strings
+pub record IsFormed (public signature : List ℕ) : Type 0 where
+  pub key : PublicKey
+  pub public_key : Spells public key
+  pub form : HasForm key signature
 
 -- the parts of a signature under the key, read at their places
 unfoldable pub signature_at : PublicKey → List ℕ → Signature

@@ -7,6 +7,10 @@ use Rattle.lms_core.specs.Bytes.{u32_bytes}
 use Rattle.lms_core.specs.OneTime.{message_hash, key_candidate}
 use Rattle.lms_core.specs.Tree.{leaf_hash, root_above}
 
+-- the parts of an LMS public key, by a name that other crates may use
+abbrev pub LmsKey : Type 0
+LmsKey = PublicKey
+
 -- u32str(type) || u32str(otstype) || I || T[1] (RFC 8554, 5.3)
 abbrev pub public_key_bytes : PublicKey → List ℕ
 public_key_bytes key =

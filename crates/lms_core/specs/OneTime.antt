@@ -25,11 +25,15 @@ chain_end identifier q w string i y =
     let digit = coef string i w in
     chain identifier q i digit (2 ^ w - 1 - digit) y
 
+-- K: the public key of a one-time key whose chains end with z_0, .., z_(p-1), here joined:
+-- H(I || u32str(q) || D_PBLC || z_0 || .. || z_(p-1)) (RFC 8554, 4.3)
+abbrev pub key_hash : List ℕ → ℕ → List ℕ → List ℕ
+key_hash identifier q ends = sha256 (identifier ++ u32_bytes q ++ public_key_domain ++ ends)
+
 -- Kc: the public key of the one-time key for which y_0, .., y_(p-1) sign the digest,
--- H(I || u32str(q) || D_PBLC || z_0 || .. || z_(p-1)) (RFC 8554, 4.6, algorithm 4b)
+-- the hash of the chains' ends (RFC 8554, 4.6, algorithm 4b)
 unfoldable pub key_candidate : List ℕ → ℕ → OtsParams → List ℕ → List (List ℕ) → List ℕ
 key_candidate identifier q params digest ys =
     let string = signed_string digest params.w params.ls in
-    sha256 (identifier ++ u32_bytes q ++ public_key_domain
-    ++ concat (map (λ i. chain_end identifier q params.w string i (slice_index_or ys i []))
-    (range_with_len 0 params.p)))
+    key_hash identifier q
+    (concat (map (λ i. chain_end identifier q params.w string i (slice_index_or ys i [])) (range_with_len 0 params.p)))

@@ -1,5 +1,5 @@
 -- The Merkle tree of LMS (RFC 8554, 5.3 and 5.4.2).
-use Rattle.std.specs.Prelude.{ℕ, ◌/◌, ◌%◌, ◌==◌, if◌then◌else◌, List, [], ◌∷◌, ◌++◌}
+use Rattle.std.specs.Prelude.{ℕ, zero, suc, ◌+◌, ◌-◌, ◌*◌, ◌/◌, ◌%◌, ◌==◌, if◌then◌else◌, List, [], ◌∷◌, ◌++◌}
 use Rattle.sha2.specs.Sha256.{sha256}
 use Rattle.lms_core.specs.Bytes.{u32_bytes}
 
@@ -32,3 +32,19 @@ abbrev pub root_above : List ℕ → ℕ → List ℕ → List (List ℕ) → Li
 root_above identifier node value [] = value
 root_above identifier node value (sibling ∷ path) =
     root_above identifier (node / 2) (parent_hash identifier node value sibling) path
+
+-- T[r] of a tree over these leaves: the node of number r that stands so many levels above them (RFC 8554, 5.3)
+unfoldable pub tree_node : List ℕ → (ℕ → List ℕ) → ℕ → ℕ → List ℕ
+tree_node identifier leaf zero node = leaf node
+tree_node identifier leaf (suc level) node =
+    inner_hash identifier node (tree_node identifier leaf level (2 * node)) (tree_node identifier leaf level (2 * node + 1))
+
+-- the other child of a node's parent
+abbrev pub sibling : ℕ → ℕ
+sibling node = if node % 2 == 1 then node - 1 else node + 1
+
+-- the siblings of a node at this level and of so many nodes, it included, on the way up (RFC 8554, 5.4)
+unfoldable pub path_above : List ℕ → (ℕ → List ℕ) → ℕ → ℕ → ℕ → List (List ℕ)
+path_above identifier leaf level node zero = []
+path_above identifier leaf level node (suc up) =
+    tree_node identifier leaf level (sibling node) ∷ path_above identifier leaf (suc level) (node / 2) up

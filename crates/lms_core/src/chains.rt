@@ -44,8 +44,8 @@ pub(crate) fn finish_all(identifier: &[u8; 16], q: u32, to: u8, digits: &[u8], v
     }
 }
 
-// Step `j` of each chain whose digit is at most `j`. One chain's steps wait for each other; these,
-// of different chains, do not, and the processor overlaps them.
+// Step `j` of each chain whose digit is at most `j`. A step's message has a fixed length, and in a loop
+// like this one the compiler folds the hasher around it into stores and one call of the block function.
 fn step_all(identifier: &[u8; 16], q: u32, j: u8, digits: &[u8], values: &mut [u8])
     requires numbered { length digits.now ≤ 2 ^ 16 }
     requires whole { length values.old ≡ 32 * length digits.now }

@@ -9,10 +9,10 @@
 pub use bytes::read_u32;
 pub use chains::{chain, chain_step};
 pub use digits::{checksum, coef, signed_string};
-pub use one_time::message_hash;
+pub use one_time::{key_hash, message_hash};
 pub use parameters::{OtsParams, lms_of, ots_of};
 pub use tree::{inner_hash, leaf_hash};
-pub use verify::{lms_signature_len, lms_verify};
+pub use verify::{lms_has_form, lms_signature_len, lms_verify};
 
 mod bytes;
 mod chains;

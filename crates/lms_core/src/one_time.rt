@@ -3,7 +3,7 @@
 ghost use Rattle.std.specs.Prelude.{◌≡◌, ◌*◌, ◌<◌, ℕ, length, slice_index};
 ghost use Rattle.lms_core.specs.Parameters.{IsOtsRow};
 ghost use Rattle.lms_core.specs.Digits.{coef};
-ghost use Rattle.lms_core.specs.OneTime.{key_candidate, message_hash};
+ghost use Rattle.lms_core.specs.OneTime.{key_candidate, key_hash, message_hash};
 ghost use Rattle.lms_core.specs.Layout.{hashes_in};
 
 use crate::bytes::blank;
@@ -61,11 +61,19 @@ pub(crate) fn key_candidate(
     values.copy_from_slice(ys);
     let largest = ((1u16 << w) - 1) as u8;
     finish_all(identifier, q, largest, &digits[..params.p as usize], values);
+    key_hash(identifier, q, values)
+}
+
+/// K, the public key of the one-time key at leaf `q` whose chains end with the strings `ends`, end to
+/// end: H(I || u32str(q) || D_PBLC || z_0 || .. || z_(p-1)) (RFC 8554, 4.3).
+pub fn key_hash(identifier: &[u8; 16], q: u32, ends: &[u8]) -> [u8; 32]
+    ensures value { result ≡ key_hash identifier.now q ends.now }
+{
     let mut hasher = Sha256::new();
     hasher.update(identifier.as_slice());
     hasher.update(q.to_be_bytes().as_slice());
     hasher.update(PUBLIC_KEY_DOMAIN.as_slice());
-    hasher.update(values);
+    hasher.update(ends);
     hasher.finalize()
 }
 

@@ -29,6 +29,11 @@ const DIGEST: [u8; 32] = [
     0xea, 0x2b, 0x76, 0x82, 0xa7, 0xa0, 0x22, 0xb7, 0xf5, 0x80, 0xba, 0xb3, 0x4e, 0x34, 0x60, 0x42,
 ];
 
+const KEY: [u8; 32] = [
+    0x3c, 0xfd, 0x19, 0x68, 0x50, 0x4d, 0x2e, 0x8e, 0x9c, 0xc1, 0x99, 0x91, 0xaf, 0x01, 0x37, 0xa3,
+    0x47, 0xa7, 0x12, 0x41, 0x14, 0xf8, 0x08, 0xdf, 0x5d, 0xe2, 0x47, 0x65, 0x78, 0xef, 0xdd, 0x57,
+];
+
 const ROOT_5: [u8; 32] = [
     0xb5, 0x3c, 0x29, 0xa1, 0xdd, 0xc2, 0xe0, 0xc9, 0xb4, 0x14, 0x45, 0xac, 0x74, 0x7e, 0xc8, 0xe8,
     0xa8, 0x13, 0xc2, 0xce, 0x9a, 0x05, 0x52, 0xd4, 0x9d, 0xf5, 0x6c, 0x72, 0xe1, 0x96, 0xef, 0x46,
@@ -113,6 +118,7 @@ fn takes_digits(rt: HostRuntime) {
 fn hashes(rt: HostRuntime) {
     assert_eq!(rt; chain_step(&IDENTIFIER, 9, 260, 3, &SEVENS), STEP);
     assert_eq!(rt; chain(&IDENTIFIER, 9, 260, 3, 8, &SEVENS), CHAIN);
+    assert_eq!(rt; key_hash(&IDENTIFIER, 9, &SEVENS), KEY);
     assert_eq!(rt; leaf_hash(&IDENTIFIER, 37, &SEVENS), LEAF);
     assert_eq!(rt; inner_hash(&IDENTIFIER, 18, &SEVENS, &counting()), INNER);
     assert_eq!(rt; message_hash(&IDENTIFIER, 5, &SEVENS, b"TEEP"), DIGEST);
@@ -131,12 +137,14 @@ fn verifies(rt: HostRuntime) -> Result<(), Fail> {
         let public = public_key(rt.alloc(), lms_type, ots_type, &root)?;
         let mut signature = zeros(rt.alloc(), lms_type, height, ots_type, p, q)?;
         assert_eq!(rt; lms_signature_len(&public), Some(signature.len()));
+        assert!(rt; lms_has_form(&public, &signature));
         assert!(rt; lms_verify(&public, b"TEEP", &signature), "type {lms_type}");
         assert!(rt;
             !lms_verify(&public, b"TEEp", &signature),
             "type {lms_type}"
         );
         signature.push(0)?;
+        assert!(rt; !lms_has_form(&public, &signature));
         assert!(rt;
             !lms_verify(&public, b"TEEP", &signature),
             "type {lms_type}"

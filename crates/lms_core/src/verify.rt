@@ -3,7 +3,7 @@
 ghost use Rattle.std.specs.Prelude.{◌≡◌, ◌↔◌, ℕ, List, IsSome, IsTrue, length};
 ghost use Rattle.lms_core.specs.declared.public_key.PublicKey.{PublicKey as Key};
 ghost use Rattle.lms_core.specs.Lms.{IsKnown, IsPublicKey, LmsValid, Spells, root_candidate, signature_length};
-ghost use Rattle.lms_core.specs.Layout.{HasForm, chains_end, signature_at};
+ghost use Rattle.lms_core.specs.Layout.{HasForm, IsFormed, chains_end, signature_at};
 
 use crate::bytes::{array_at, read_u32};
 use crate::one_time::{key_candidate, message_hash};
@@ -23,6 +23,17 @@ pub fn lms_verify(public: &[u8], message: &[u8], signature: &[u8]) -> bool
     has_form(&key, signature) && root_candidate(&key, message, signature) == key.root
 }
 
+/// Whether `signature` has the exact length and the types that the LMS public key `public` gives it,
+/// and names a leaf of its tree: false for what is no public key too. Nothing is hashed.
+pub fn lms_has_form(public: &[u8], signature: &[u8]) -> bool
+    ensures form { IsTrue result ↔ IsFormed public.now signature.now }
+{
+    let Some(key) = PublicKey::read(public) else {
+        return false;
+    };
+    has_form(&key, signature)
+}
+
 /// The length of each signature under an LMS public key. `None` comes exactly where `public` is no
 /// public key of 56 bytes with types from the tables.
 pub fn lms_signature_len(public: &[u8]) -> Option<usize>
@@ -30,6 +41,7 @@ pub fn lms_signature_len(public: &[u8]) -> Option<usize>
     ensures length { (key : Key) → Spells public.now key → result ≡ Some (signature_length key) }
     ensures exact { (message signature : List ℕ) → LmsValid public.now message signature
         → result ≡ Some (length signature) }
+    ensures formed { (signature : List ℕ) → IsFormed public.now signature → result ≡ Some (length signature) }
 {
     let key = PublicKey::read(public)?;
     Some(signature_len(&key))

@@ -2,7 +2,7 @@ use Rattle.std.proofs.Common.{◌≡◌, ℕ, ◌-◌, ◌<◌, ◌≤◌, List,
 use Rattle.std.proofs.lemmas.Bool.{eqb-true, leb-true}
 use Rattle.lms_core.specs.Bytes.{u32_at}
 use Rattle.hss_verify.specs.Hss.{HssValid}
-use Rattle.hss_verify.proofs.Levels.{counted, valid_from}
+use Rattle.hss_verify.proofs.Levels.{counted, number_and_rest, valid_from}
 use Rattle.hss_verify.proofs.verify.hss_verify.Goals as goal
 use Rattle.hss_verify.proofs.verify.hss_verify.Goals.{then-signature-ge4, else-signature-ge4}
 
@@ -16,10 +16,10 @@ returns-then-read_u32-links c =
       | else-signature-ge4 w ↦ let long = leb-true 4 (length signature) (sym w.value-is ∙ c.if-read_u32-links.true) in absurd (omega arith)
     ] in
     let P : List ℕ → Type 0 = λ public. HssValid public c.args.message.now signature in (
-      λ yes. subst P c.bytes-key.ensures.value (valid_from c.bytes-key.result c.args.message.now signature levels fits c.bytes-key.ensures.known c.read_u32-links.ensures (record {
+      λ yes. subst P c.bytes-key.ensures.value (valid_from c.bytes-key.result c.args.message.now signature levels (number_and_rest signature fits count.0) c.bytes-key.ensures.known c.read_u32-links.ensures (record {
         room = count.0;
         count = count.1;
-        chain = c.verifies.ensures.0 yes;
+        chain = c.is_signed.ensures.0 yes;
       })),
-      λ valid. c.verifies.ensures.1 (counted c.bytes-key.result c.args.message.now signature levels c.read_u32-links.ensures (subst P (sym c.bytes-key.ensures.value) valid)).chain,
+      λ valid. c.is_signed.ensures.1 (counted c.bytes-key.result c.args.message.now signature levels c.read_u32-links.ensures (subst P (sym c.bytes-key.ensures.value) valid)).chain,
     )

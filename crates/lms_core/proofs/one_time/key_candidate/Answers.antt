@@ -1,9 +1,7 @@
-use Rattle.std.proofs.Common.{◌≡◌, ℕ, ◌*◌, ◌-◌, ◌%◌, ◌^◌, ◌<◌, List, ◌++◌, length, take, slice_index, ◌∙◌, ap, arith, rules}
+use Rattle.std.proofs.Common.{◌≡◌, ℕ, ◌*◌, ◌-◌, ◌%◌, ◌^◌, ◌<◌, List, length, take, slice_index, ◌∙◌, ap, arith}
 use Rattle.std.proofs.lemmas.List.{get_or-take, length-take-le}
-use Rattle.sha2.specs.Sha256.{sha256}
-use Rattle.lms_core.specs.Bytes.{u32_bytes}
 use Rattle.lms_core.specs.Digits.{coef, signed_string}
-use Rattle.lms_core.specs.OneTime.{chain_end, key_candidate, public_key_domain}
+use Rattle.lms_core.specs.OneTime.{chain_end, key_candidate, key_hash}
 use Rattle.lms_core.proofs.Ends.{end_is, ends_joined}
 use Rattle.lms_core.proofs.Rows.{shifted_one, width_of_row}
 use Rattle.lms_core.proofs.Slots.{slot}
@@ -19,7 +17,6 @@ returns c =
     let string = signed_string c.args.digest.now w c.args.params.ls in
     let digits = c.all_digits-digits.result in
     let values = c.finish_all.new.values in
-    let front = identifier ++ u32_bytes c.args.q ++ public_key_domain in
     let size : length values ≡ 32 * p = c.finish_all.ensures.length ∙ ap length c.copy_from_slice.ensures.after ∙ c.requires.whole in
     let count : length (take p digits) ≡ p = length-take-le p digits (grind arith) in
     let largest : 1 * 2 ^ w % 65536 - 1 ≡ 2 ^ w - 1 = ap (λ (n : ℕ). n - 1) (shifted_one w (width_of_row c.args.params c.requires.row)) in
@@ -27,5 +24,5 @@ returns c =
     let start : (i : ℕ) → slot c.copy_from_slice.new.self i ≡ slot ys i = λ i. ap (λ (x : List ℕ). slot x i) c.copy_from_slice.ensures.after in
     let ends : (i : ℕ) → i < p → slot values i ≡ chain_end identifier c.args.q w string i (slot ys i) = λ i h.
     end_is identifier c.args.q w string i _ _ _ (slot ys i) (slot values i) (c.finish_all.ensures.ends i (rw count h)) largest (digit i h) (start i) in
-    c.finalize.ensures (front ++ values) (search rules)
-    ∙ ap (λ (x : List ℕ). sha256 (front ++ x)) (ends_joined identifier c.args.q w string ys values p size ends)
+    c.key_hash.ensures.value
+    ∙ ap (key_hash identifier c.args.q) (ends_joined identifier c.args.q w string ys values p size ends)

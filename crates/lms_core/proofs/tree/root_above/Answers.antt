@@ -1,7 +1,7 @@
 use Rattle.std.proofs.Common.{◌+◌, ◌-◌, ◌*◌, ◌/◌, List, ℕ, length, drop, sym, ◌∙◌, ap, arith}
 use Rattle.lms_core.specs.Layout.{hashes_in}
 use Rattle.lms_core.specs.Tree.{root_above, parent_hash}
-use Rattle.lms_core.proofs.Hashes.{hashes_in-next}
+use Rattle.lms_core.proofs.Public.Hashes.{hashes_in-next}
 use Rattle.lms_core.proofs.tree.root_above.Goals as goal
 
 pub loop-k-preserved : goal.loop-k-preserved

@@ -1,7 +1,7 @@
 use Rattle.std.proofs.Common.{◌≡◌, ℕ, ◌<◌, Some, length, get_or, sym, ◌∙◌, ap, arith}
 use Rattle.lms_core.specs.Parameters.{ots_table}
 use Rattle.lms_core.proofs.Keys.{fields_at, one_key, spelled_at}
-use Rattle.lms_core.proofs.Parts.{length-part}
+use Rattle.lms_core.proofs.Public.Parts.{length-part}
 use Rattle.lms_core.proofs.public_key.PublicKey.read.Goals as goal
 
 pub returns-in_err-params-clause-only : goal.returns-in_err-params-clause-only

@@ -1,0 +1,7 @@
+-- What other crates may cite.
+pub mod Parts
+pub mod Hashes
+pub mod Chains
+pub mod Trees
+pub mod Forms
+pub mod Decided
