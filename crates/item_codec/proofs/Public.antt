@@ -1,0 +1,10 @@
+pub mod Settled
+pub mod Forms
+pub mod Decoded
+pub mod Answers
+pub mod Kept
+pub mod Ordered
+pub mod Arrays
+pub mod Wraps
+pub mod Whole
+pub mod InOrder

@@ -1,0 +1,7 @@
+pub mod Answers
+pub mod Part
+pub mod Fields
+pub mod Ordered
+pub mod InOrder
+pub mod Wrapped
+pub mod Whole
