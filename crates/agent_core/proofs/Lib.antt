@@ -1,4 +1,3 @@
-pub mod Envelopes
 pub mod OneReply
 pub mod Proper
 pub mod Sizes

@@ -9,7 +9,7 @@ use Rattle.agent_core.specs.Frames.{Frame}
 use Rattle.cose_core.specs.declared.sign1.Sign1.{Sign1}
 use Rattle.trust_anchors.specs.declared.anchors.Anchors.{Anchors}
 use Rattle.agent_core.specs.Answers.{message_frame, response, Answers, AnswersBytes, AnswersMessage, AnswersToken, RefusesBytes, AnswersSigned, RefusesUnsigned, AnswersContent, AnswersEnvelope, RefusesEnvelope, Replies}
-use Rattle.agent_core.proofs.Envelopes.{one_envelope, not_refused}
+use Rattle.cose_core.proofs.Public.Envelopes.{one_envelope, not_refused}
 use Rattle.agent_core.specs.declared.event.Event.{Event}
 use Rattle.agent_core.specs.declared.event.Event.TheVariants.{Message, Payload, FetchFailed, Strange}
 

@@ -30,7 +30,7 @@ kid_is (Some x) kid e = kid_by x (bytes_of x) kid refl e where
   kid_by x (Some t) None is e = absurd cc
   kid_by x (Some t) (Some k) is e = let same : t ≡ k = cc in ap (λ (y : Item). Some y) (bytes_is x t is ∙ ap (λ (l : List ℕ). i.Bytes l) same)
 
-kid_back : (kid : Option (List ℕ)) → kid_if (option_map i.Bytes kid) ≡ Some kid
+pub kid_back : (kid : Option (List ℕ)) → kid_if (option_map i.Bytes kid) ≡ Some kid
 kid_back None = refl
 kid_back (Some k) = rw (bytes_back k) refl
 
@@ -58,7 +58,7 @@ key_found bytes x (Ok v) s h = record { item = x; spelled = s; key = h }
 key_found bytes x (Err e) s h = tt
 
 -- a key of the bytes is one of the item that they spell
-key_at : (bytes : List ℕ) (x : Item) (v : CoseKey) → Spells x bytes → KeyIs v bytes → IsKeyItem v x
+pub key_at : (bytes : List ℕ) (x : Item) (v : CoseKey) → Spells x bytes → KeyIs v bytes → IsKeyItem v x
 key_at bytes x v s is = subst (λ (y : Item). IsKeyItem v y) (one_for_one.one_item is.item x bytes is.spelled s) is.key
 
 -- bytes are one key at most

@@ -3,3 +3,7 @@ pub mod Forms
 pub mod Sign1s
 pub mod Keys
 pub mod SignedItems
+pub mod Wholes
+pub mod There
+pub mod KeysThere
+pub mod Public

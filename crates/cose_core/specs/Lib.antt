@@ -4,3 +4,4 @@ pub mod Signed
 pub mod Sign1
 pub mod Reading
 pub mod Key
+pub mod Law

@@ -9,6 +9,7 @@ mod fault;
 mod headers;
 mod key;
 mod labels;
+mod laws;
 mod sign1;
 mod signed;
 #[cfg(test)]
@@ -20,5 +21,6 @@ pub use labels::{
     ALG_HSS_LMS, HEADER_ALG, HEADER_CRIT, HEADER_KID, KEY_ALG, KEY_KID, KEY_KTY, KEY_PUB,
     KTY_HSS_LMS, SIGN1_TAG,
 };
+pub use laws::exactly_one;
 pub use sign1::Sign1;
 pub use signed::signed_bytes;

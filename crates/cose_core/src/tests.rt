@@ -1,4 +1,4 @@
-use crate::{CoseFault, CoseKey, KeyFault, Sign1, signed_bytes};
+use crate::{CoseFault, CoseKey, KeyFault, Sign1, exactly_one, signed_bytes};
 use cbor_core::{Fault, Item, List, Octets, Pair, Why};
 use std::alloc::Global;
 use std::test::Fail;
@@ -22,6 +22,7 @@ fn signs_these_bytes(rt: HostRuntime) -> Result<(), Fail> {
 #[test]
 fn refuses_in_order(rt: HostRuntime) {
     let alloc = rt.alloc();
+    exactly_one();
     let cut = Fault {
         at: 1,
         why: Why::CutHead,

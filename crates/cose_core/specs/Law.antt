@@ -1,0 +1,35 @@
+-- What bytes as a whole are: a value, or refused in one way.
+use Rattle.std.specs.Prelude.{ℕ, ◌≡◌, ◌⊎◌, List}
+use Rattle.base_types.specs.Bytes.{IsBytes}
+use Rattle.cose_core.specs.declared.sign1.Sign1.{Sign1}
+use Rattle.cose_core.specs.declared.fault.CoseFault.{CoseFault}
+use Rattle.cose_core.specs.declared.key.CoseKey.{CoseKey}
+use Rattle.cose_core.specs.declared.fault.KeyFault.{KeyFault}
+use Rattle.cose_core.specs.Sign1.{Sign1Is, RefusedAs}
+use Rattle.cose_core.specs.Key.{KeyIs, KeyRefusedAs}
+
+-- there is one value, and no refusal
+pub record OneValue {V E : Type 0} (Is : V → Type 0) (Refused : E → Type 0) : Type 0 where
+  pub value : V
+  pub is : Is value
+  pub alone : (other : V) → Is other → other ≡ value
+  pub no_refusal : (fault : E) → Refused fault → ⊥
+
+-- there is one refusal, and no value
+pub record OneRefusal {V E : Type 0} (Is : V → Type 0) (Refused : E → Type 0) : Type 0 where
+  pub fault : E
+  pub refused : Refused fault
+  pub alone : (other : E) → Refused other → other ≡ fault
+  pub no_value : (value : V) → Is value → ⊥
+
+-- one value or one refusal, and not both
+abbrev pub ExactlyOne : {V E : Type 0} → (V → Type 0) → (E → Type 0) → Type 0
+ExactlyOne Is Refused = OneValue Is Refused ⊎ OneRefusal Is Refused
+
+-- each list of bytes is one COSE_Sign1 (RFC 9052, section 4.2), or has one refusal
+abbrev pub OneEnvelope : Type 0
+OneEnvelope = (bytes : List ℕ) → IsBytes bytes → ExactlyOne (λ (v : Sign1). Sign1Is v bytes) (λ (e : CoseFault). RefusedAs bytes e)
+
+-- each list of bytes is one COSE_Key (RFC 9052, section 7), or has one refusal
+abbrev pub OneKey : Type 0
+OneKey = (bytes : List ℕ) → IsBytes bytes → ExactlyOne (λ (v : CoseKey). KeyIs v bytes) (λ (e : KeyFault). KeyRefusedAs bytes e)
