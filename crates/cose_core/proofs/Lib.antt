@@ -5,5 +5,4 @@ pub mod Keys
 pub mod SignedItems
 pub mod Wholes
 pub mod There
-pub mod KeysThere
 pub mod Public

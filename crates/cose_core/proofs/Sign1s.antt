@@ -12,9 +12,9 @@ use Rattle.cose_core.specs.declared.sign1.Sign1.{Sign1}
 use Rattle.cose_core.specs.declared.fault.CoseFault.{CoseFault}
 use Rattle.cose_core.specs.declared.fault.CoseFault.TheVariants as faults
 use Rattle.cose_core.specs.declared.labels.TheConstants.{SIGN1_TAG}
-use Rattle.cose_core.specs.Headers.{Wraps, IsHssLms, IsUncritical}
-use Rattle.cose_core.specs.Sign1.{untagged, tagged, HasForm, Sign1Is, RefusedAs, IsFound, IsRefused, HasGoodHeaders, IsTaggedForm}
-use Rattle.cose_core.specs.Reading.{form_of, IsGood, CheckedAs, ReadAs}
+use Rattle.cose_core.specs.Headers.{Wraps, IsHssLms, IsUncritical, HasGoodHeaders}
+use Rattle.cose_core.specs.Sign1.{untagged, tagged, HasForm, Sign1Is, RefusedAs, IsFound, IsRefused, IsTaggedForm}
+use Rattle.cose_core.specs.Reading.{form_of, CheckedAs, ReadAs}
 use Rattle.cose_core.proofs.Forms.{wraps_one, form_at, has_form}
 
 -- a fault of the protected bytes is one of the item
@@ -26,7 +26,7 @@ not_checked x v faults.Critical is h = (v, is, h)
 not_checked x v faults.NoMemory is h = tt
 
 -- protected bytes with a fault have no headers that are taken
-pub not_good : (bytes : List ℕ) (e : CoseFault) → CheckedAs {T = Unit {0}} bytes (Err e) → (e ≡ faults.NoMemory → ⊥) → IsGood bytes → ⊥
+pub not_good : (bytes : List ℕ) (e : CoseFault) → CheckedAs {T = Unit {0}} bytes (Err e) → (e ≡ faults.NoMemory → ⊥) → HasGoodHeaders bytes → ⊥
 not_good bytes (faults.NotCose f) h other good = h
 not_good bytes faults.Shape h other good = h good.headers good.wrapped
 not_good bytes faults.WrongAlg h other good = h.wrong (subst IsHssLms (wraps_one bytes good.headers h.headers good.wrapped h.wrapped) good.algorithm)
@@ -81,7 +81,7 @@ is_refused bytes x (Err faults.NoMemory) s none h e bad = inr refl
 
 -- ---- what is written
 
-pub is_again : (v : Sign1) (bytes : List ℕ) → Spells (tagged v) bytes → HasGoodHeaders v → Sign1Is v bytes
+pub is_again : (v : Sign1) (bytes : List ℕ) → Spells (tagged v) bytes → HasGoodHeaders v.protected → Sign1Is v bytes
 is_again v bytes s good = record {
   form = record { spelled = inr s; headers = good.headers; wrapped = good.wrapped };
   algorithm = good.algorithm;

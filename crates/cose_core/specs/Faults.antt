@@ -4,13 +4,7 @@ use Rattle.cbor_core.specs.declared.fault.CborFault.{CborFault}
 use Rattle.cbor_core.specs.declared.fault.CborFault.TheVariants as cbor
 use Rattle.cose_core.specs.declared.fault.CoseFault.{CoseFault}
 use Rattle.cose_core.specs.declared.fault.CoseFault.TheVariants as cose
-use Rattle.cose_core.specs.declared.fault.KeyFault.{KeyFault}
-use Rattle.cose_core.specs.declared.fault.KeyFault.TheVariants as key
 
 abbrev pub IsNotCose : CborFault → CoseFault → Type 0
 IsNotCose (cbor.Bad f) e = e ≡ cose.NotCose f
 IsNotCose cbor.NoMemory e = e ≡ cose.NoMemory
-
-abbrev pub IsNotCbor : CborFault → KeyFault → Type 0
-IsNotCbor (cbor.Bad f) e = e ≡ key.NotCbor f
-IsNotCbor cbor.NoMemory e = e ≡ key.NoMemory

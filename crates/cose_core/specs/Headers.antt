@@ -21,6 +21,13 @@ IsHssLms headers = field HEADER_ALG headers ≡ Some (i.Negative ALG_HSS_LMS)
 abbrev pub IsUncritical : List Pair → Type 0
 IsUncritical headers = field HEADER_CRIT headers ≡ None
 
+-- the protected bytes stand for headers that a reader takes
+pub record HasGoodHeaders (protected : List ℕ) : Type 0 where
+  pub headers : List Pair
+  pub wrapped : Wraps protected headers
+  pub algorithm : IsHssLms headers
+  pub uncritical : IsUncritical headers
+
 abbrev pub bytes_if : Option Item → Option (List ℕ)
 bytes_if None = None
 bytes_if (Some x) = bytes_of x

@@ -1,76 +1,59 @@
 -- COSE_Key with an HSS/LMS public key: which bytes are one, and why others are not (RFC 9052, section 7; RFC 8778, section 3).
-use Rattle.std.specs.Prelude.{◌≡◌, ◌⊎◌, ℕ, List, [], ◌∷◌, ◌++◌, Option, None, Some, Result, Ok, Err, option_map}
-use Rattle.cbor_core.specs.declared.item.Item.{Item}
+use Rattle.std.specs.Prelude.{◌==◌, ◌&&◌, ℕ, Bool, true, false, List, [], ◌∷◌, ◌++◌, Option, None, Some, Result, Ok, Err, if◌then◌else◌}
+use Rattle.cbor_core.specs.declared.item.Item.{Item, out-Item}
+use Rattle.cbor_core.specs.declared.item.Item.TheOpen.{Item-F}
 use Rattle.cbor_core.specs.declared.item.Item.TheVariants as i
 use Rattle.cbor_core.specs.declared.item.Pair.{Pair}
-use Rattle.cbor_core.specs.Spelling.{Spells}
 use Rattle.cbor_core.specs.Views.{field, bytes_of}
-use Rattle.cbor_core.specs.Law.{IsFaultyWhole}
+use Rattle.cbor_fields.specs.Views.{negative_field}
+use Rattle.item_codec.specs.Fields.{shaped, known, required, in_map}
+use Rattle.item_codec.specs.Whole.{HasValue, HasRefusal}
 use Rattle.cose_core.specs.declared.key.CoseKey.{CoseKey}
 use Rattle.cose_core.specs.declared.fault.KeyFault.{KeyFault}
 use Rattle.cose_core.specs.declared.fault.KeyFault.TheVariants as faults
 use Rattle.cose_core.specs.declared.labels.TheConstants.{ALG_HSS_LMS, KEY_KTY, KEY_KID, KEY_ALG, KEY_PUB, KTY_HSS_LMS}
-use Rattle.cbor_fields.specs.Views.{negative_field}
 
--- the type is HSS-LMS, and the key is for no other algorithm (RFC 8778, section 3)
-pub record IsForHssLms (pairs : List Pair) : Type 0 where
-  pub kty : field KEY_KTY pairs ≡ Some (i.Unsigned KTY_HSS_LMS)
-  pub alg : (field KEY_ALG pairs ≡ None) ⊎ (field KEY_ALG pairs ≡ Some (i.Negative ALG_HSS_LMS))
+-- ---- what is read
 
--- The pairs are those of this key: for HSS/LMS, its identifier where there is one, and its public part.
+abbrev pub is_kty_by : Item-F Item Pair → Bool
+is_kty_by (Item-F.Unsigned n) = n == KTY_HSS_LMS
+is_kty_by _ = false
+
+-- the key type is there, and it is HSS-LMS (RFC 8778, section 3)
+abbrev pub is_kty : Option Item → Bool
+is_kty None = false
+is_kty (Some x) = is_kty_by (out-Item x)
+
+abbrev pub is_alg_by : Item-F Item Pair → Bool
+is_alg_by (Item-F.Negative n) = n == ALG_HSS_LMS
+is_alg_by _ = false
+
+-- the algorithm is HSS/LMS (RFC 8778, section 3), or none is named
+abbrev pub is_alg_if : Option Item → Bool
+is_alg_if None = true
+is_alg_if (Some x) = is_alg_by (out-Item x)
+
+-- The key of a map: for HSS/LMS and no other algorithm, with its identifier where there is one, and its public part.
 -- What stands under other labels is passed over.
-pub record IsKey (v : CoseKey) (pairs : List Pair) : Type 0 where
-  pub kind : IsForHssLms pairs
-  pub kid : field KEY_KID pairs ≡ option_map i.Bytes v.kid
-  pub public : negative_field KEY_PUB pairs ≡ Some (i.Bytes v.public)
+abbrev pub key_in : List Pair → Result CoseKey KeyFault
+key_in ps =
+    if is_kty (field KEY_KTY ps) && is_alg_if (field KEY_ALG ps) then
+    known (shaped faults.Shape bytes_of) (field KEY_KID ps) (λ kid.
+    required (shaped faults.Shape bytes_of) faults.Shape (negative_field KEY_PUB ps) (λ public.
+    Ok (record { kid = kid; public = public })))
+    else Err faults.Shape
 
--- the item is this key
-pub record IsKeyItem (v : CoseKey) (x : Item) : Type 0 where
-  pub pairs : List Pair
-  pub map : x ≡ i.Map pairs
-  pub key : IsKey v pairs
+-- the key of an item, which is a map
+abbrev pub key_of : Item → Result CoseKey KeyFault
+key_of = in_map faults.Shape key_in
 
--- the bytes are this key
-pub record KeyIs (v : CoseKey) (bytes : List ℕ) : Type 0 where
-  pub item : Item
-  pub spelled : Spells item bytes
-  pub key : IsKeyItem v item
+-- the bytes spell an item that is this key
+abbrev pub KeyIs : CoseKey → List ℕ → Type 0
+KeyIs v bytes = HasValue key_of bytes v
 
--- an item is spelled, and it is no key
-pub record IsNoKey (bytes : List ℕ) : Type 0 where
-  pub item : Item
-  pub spelled : Spells item bytes
-  pub no_key : (v : CoseKey) → KeyIs v bytes → ⊥
-
--- the bytes are refused so
+-- the bytes spell no item, and NotCbor says why, or an item that is refused so
 abbrev pub KeyRefusedAs : List ℕ → KeyFault → Type 0
-KeyRefusedAs bytes (faults.NotCbor f) = IsFaultyWhole bytes f
-KeyRefusedAs bytes faults.Shape = IsNoKey bytes
-KeyRefusedAs bytes faults.NoMemory = ⊥
-
--- the answer is this key, unless memory ran out
-abbrev pub IsKeyFound : Result CoseKey KeyFault → CoseKey → Type 0
-IsKeyFound (Ok w) v = w ≡ v
-IsKeyFound (Err faults.NoMemory) v = Unit {0}
-IsKeyFound (Err _) v = ⊥
-
--- the answer is this refusal, unless memory ran out
-abbrev pub IsKeyRefused : Result CoseKey KeyFault → KeyFault → Type 0
-IsKeyRefused (Ok w) e = ⊥
-IsKeyRefused (Err d) e = (d ≡ e) ⊎ (d ≡ faults.NoMemory)
-
--- ---- the parts of the reader
-
--- an identifier, which may be absent, and which is no key's where it is no byte string
-abbrev pub kid_if : Option Item → Option (Option (List ℕ))
-kid_if None = Some None
-kid_if (Some x) = option_map (λ bytes. Some bytes) (bytes_of x)
-
-abbrev pub KeyReadAs : Item → Result CoseKey KeyFault → Type 0
-KeyReadAs x (Ok v) = IsKeyItem v x
-KeyReadAs x (Err faults.Shape) = (v : CoseKey) → IsKeyItem v x → ⊥
-KeyReadAs x (Err faults.NoMemory) = Unit {0}
-KeyReadAs x (Err (faults.NotCbor f)) = ⊥
+KeyRefusedAs bytes fault = HasRefusal (λ f. faults.NotCbor f) key_of bytes fault
 
 -- ---- what is written
 

@@ -8,7 +8,7 @@ use Rattle.cose_core.specs.declared.sign1.Sign1.{Sign1}
 use Rattle.cose_core.specs.declared.fault.CoseFault.{CoseFault}
 use Rattle.cose_core.specs.declared.fault.CoseFault.TheVariants as faults
 use Rattle.cose_core.specs.declared.labels.TheConstants.{SIGN1_TAG}
-use Rattle.cose_core.specs.Headers.{Wraps, IsHssLms, IsUncritical}
+use Rattle.cose_core.specs.Headers.{Wraps, IsHssLms, IsUncritical, HasGoodHeaders}
 
 -- a payload: bytes, or null for none
 abbrev pub payload_by : Item-F Item Pair → Option (Option (List ℕ))
@@ -47,12 +47,6 @@ form_of x = array_members (out-Item (content_of x))
 -- ---- the answers of the parts of the reader
 
 -- what the reader of protected bytes answers
-pub record IsGood (bytes : List ℕ) : Type 0 where
-  pub headers : List Pair
-  pub wrapped : Wraps bytes headers
-  pub algorithm : IsHssLms headers
-  pub uncritical : IsUncritical headers
-
 pub record IsWrongAlg (bytes : List ℕ) : Type 0 where
   pub headers : List Pair
   pub wrapped : Wraps bytes headers
@@ -65,7 +59,7 @@ pub record IsCritical (bytes : List ℕ) : Type 0 where
   pub critical : ¬ (IsUncritical headers)
 
 abbrev pub CheckedAs : {T : Type 0} → List ℕ → Result T CoseFault → Type 0
-CheckedAs bytes (Ok _) = IsGood bytes
+CheckedAs bytes (Ok _) = HasGoodHeaders bytes
 CheckedAs bytes (Err (faults.NotCose f)) = ⊥
 CheckedAs bytes (Err faults.Shape) = (headers : List Pair) → Wraps bytes headers → ⊥
 CheckedAs bytes (Err faults.WrongAlg) = IsWrongAlg bytes
@@ -74,7 +68,7 @@ CheckedAs bytes (Err faults.NoMemory) = Unit {0}
 
 -- what the reader of an item answers
 abbrev pub ReadAs : Item → Result Sign1 CoseFault → Type 0
-ReadAs x (Ok v) = (form_of x ≡ Some v) × IsGood v.protected
+ReadAs x (Ok v) = (form_of x ≡ Some v) × HasGoodHeaders v.protected
 ReadAs x (Err (faults.NotCose f)) = ⊥
 ReadAs x (Err faults.Shape) = (v : Sign1) → form_of x ≡ Some v → (headers : List Pair) → Wraps v.protected headers → ⊥
 ReadAs x (Err faults.WrongAlg) = (v : Sign1) × (form_of x ≡ Some v) × IsWrongAlg v.protected

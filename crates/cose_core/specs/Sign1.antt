@@ -9,7 +9,7 @@ use Rattle.cose_core.specs.declared.sign1.Sign1.{Sign1}
 use Rattle.cose_core.specs.declared.fault.CoseFault.{CoseFault}
 use Rattle.cose_core.specs.declared.fault.CoseFault.TheVariants as faults
 use Rattle.cose_core.specs.declared.labels.TheConstants.{SIGN1_TAG}
-use Rattle.cose_core.specs.Headers.{Wraps, IsHssLms, IsUncritical}
+use Rattle.cose_core.specs.Headers.{Wraps, IsHssLms, IsUncritical, HasGoodHeaders}
 
 -- a payload that is not here is null (RFC 9052, section 4.1)
 abbrev pub payload_item : Option (List ℕ) → Item
@@ -73,17 +73,10 @@ abbrev pub IsRefused : Result Sign1 CoseFault → CoseFault → Type 0
 IsRefused (Ok w) e = ⊥
 IsRefused (Err d) e = (d ≡ e) ⊎ (d ≡ faults.NoMemory)
 
--- The protected bytes stand for headers that a reader takes.
-pub record HasGoodHeaders (v : Sign1) : Type 0 where
-  pub headers : List Pair
-  pub wrapped : Wraps v.protected headers
-  pub algorithm : IsHssLms headers
-  pub uncritical : IsUncritical headers
-
 -- A value that is written and read again: its tagged form is proper, and its headers are taken.
 pub record IsProperSign1 (v : Sign1) : Type 0 where
   pub encoded : IsProper (tagged v)
-  pub headers : HasGoodHeaders v
+  pub headers : HasGoodHeaders v.protected
 
 -- the tagged form of bytes that are a COSE_Sign1: these bytes, or the tag's one byte and these bytes
 pub record IsTaggedForm (v : Sign1) (written : List ℕ) : Type 0 where

@@ -1,6 +1,8 @@
 ghost use Rattle.std.specs.Prelude.{◌≡◌};
 
-use cbor_core::{CborFault, Fault, NoMemory};
+use base_types::NoMemory;
+use cbor_core::{CborFault, Fault};
+use item_codec::Refusal;
 use thiserror::Error;
 
 /// Why bytes were not read as a COSE_Sign1. Of those that hold, the first in this order is told.
@@ -60,25 +62,12 @@ pub enum KeyFault {
     NoMemory,
 }
 
-impl From<CborFault> for KeyFault {
-    ghost use Rattle.cose_core.specs.Faults.{IsNotCbor};
-
-    ghost from_gives = { IsNotCbor };
-
-    fn from(fault: CborFault) -> KeyFault {
-        match fault {
-            CborFault::Bad(fault) => KeyFault::NotCbor(fault),
-            CborFault::NoMemory => KeyFault::NoMemory,
-        }
-    }
-}
-
-impl From<NoMemory> for KeyFault {
+impl Refusal for KeyFault {
     ghost use Rattle.cose_core.specs.declared.fault.KeyFault.TheVariants as faults;
 
-    ghost from_gives = { λ _ e. e ≡ faults.NoMemory };
+    ghost no_memory = { faults.NoMemory };
 
-    fn from(_: NoMemory) -> KeyFault {
+    fn out_of_memory() -> KeyFault {
         KeyFault::NoMemory
     }
 }

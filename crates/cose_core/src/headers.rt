@@ -1,15 +1,19 @@
 ghost use Rattle.std.specs.Prelude.{◌≡◌, ◌↔◌, IsTrue, IfOk};
-ghost use Rattle.cose_core.specs.Headers.{JudgedAs, UnwrapsAs};
-ghost use Rattle.cose_core.specs.Reading.{CheckedAs, IsGood};
+ghost use Rattle.cbor_core.specs.declared.item.Item.{out-Item};
+ghost use Rattle.cose_core.specs.Headers.{HasGoodHeaders, JudgedAs, UnwrapsAs};
+ghost use Rattle.cose_core.specs.Key.{is_alg_by};
+ghost use Rattle.cose_core.specs.Reading.{CheckedAs};
 
 use crate::fault::CoseFault;
 use crate::labels::{ALG_HSS_LMS, HEADER_ALG, HEADER_CRIT};
-use cbor_core::{CborFault, Item, List, NoMemory, OrMemory, Pair, decode_whole, field};
+use base_types::{List, NoMemory, OrMemory};
+use cbor_core::{CborFault, Item, Pair, decode_whole, field};
 use std::alloc::Global;
 
 /// Whether an item names the algorithm HSS/LMS, -46.
 pub fn is_hss_lms(alg: &Item) -> bool
-    ensures { IsTrue result ↔ (alg.now ≡ Item.Negative ALG_HSS_LMS) }
+    ensures is { IsTrue result ↔ (alg.now ≡ Item.Negative ALG_HSS_LMS) }
+    ensures test { result ≡ is_alg_by (out-Item alg.now) }
 {
     match alg {
         Item::Negative(n) => *n == ALG_HSS_LMS,
@@ -57,7 +61,7 @@ pub fn check_protected(alloc: Global, protected: &[u8]) -> Result<(), CoseFault>
 
 /// Whether protected bytes are such that their message is read.
 pub fn are_good(alloc: Global, protected: &[u8]) -> OrMemory<bool>
-    ensures { IfOk result (λ b. IsTrue b ↔ IsGood protected.now) }
+    ensures { IfOk result (λ b. IsTrue b ↔ HasGoodHeaders protected.now) }
 {
     match check_protected(alloc, protected) {
         Ok(()) => Ok(true),

@@ -1,15 +1,18 @@
-ghost use Rattle.std.specs.Prelude.{◌≡◌, ◌⊎◌, ◌↔◌, IsTrue, IfOk, IfErr, option_map};
+ghost use Rattle.std.specs.Prelude.{◌≡◌, ◌⊎◌, ◌&&◌, Ok, Err, IfOk};
+ghost use Rattle.cbor_core.specs.declared.item.Item.{out-Item};
 ghost use Rattle.cbor_core.specs.Spelling.{Spells};
 ghost use Rattle.cbor_core.specs.Views.{field};
-ghost use Rattle.cbor_fields.specs.Views as Views;
-ghost use Rattle.cose_core.specs.Headers.{bytes_if};
-ghost use Rattle.cose_core.specs.Key.{IsForHssLms, KeyReadAs, kid_if};
+ghost use Rattle.item_codec.specs.Answers.{Answers, IsAnswer};
+ghost use Rattle.item_codec.specs.Whole.{BytesAnswer};
+ghost use Rattle.cose_core.specs.Key.{is_kty_by, is_kty, is_alg_if, key_in, key_of};
 
 use crate::fault::KeyFault;
 use crate::headers::is_hss_lms;
 use crate::labels::{ALG_HSS_LMS, KEY_ALG, KEY_KID, KEY_KTY, KEY_PUB, KTY_HSS_LMS};
-use cbor_core::{Item, List, Octets, OrMemory, Pair, decode_whole, encode, field};
-use cbor_fields::negative_field;
+use base_types::{List, Octets, OrMemory};
+use cbor_core::{CborFault, Item, Pair, decode_whole, encode, field};
+use cbor_fields::{ByteString, negative_field};
+use item_codec::{read_known, read_required};
 use std::alloc::Global;
 
 /// An HSS/LMS public key with its identifier: COSE_Key (RFC 9052, section 7; RFC 8778, section 3).
@@ -23,7 +26,7 @@ pub struct CoseKey {
 
 /// Whether an item is the key type HSS-LMS.
 fn is_kty(kty: &Item) -> bool
-    ensures { IsTrue result ↔ (kty.now ≡ Item.Unsigned KTY_HSS_LMS) }
+    ensures { result ≡ is_kty_by (out-Item kty.now) }
 {
     match kty {
         Item::Unsigned(n) => *n == KTY_HSS_LMS,
@@ -33,7 +36,7 @@ fn is_kty(kty: &Item) -> bool
 
 /// Whether the labels that say what a key is for are those of HSS/LMS.
 fn is_for_hss_lms(pairs: &[Pair]) -> bool
-    ensures { IsTrue result ↔ IsForHssLms pairs.now }
+    ensures { result ≡ (is_kty (field KEY_KTY pairs.now) && is_alg_if (field KEY_ALG pairs.now)) }
 {
     let is_kind = match field(pairs, KEY_KTY) {
         Some(kty) => is_kty(kty),
@@ -46,56 +49,43 @@ fn is_for_hss_lms(pairs: &[Pair]) -> bool
     is_kind && is_alg
 }
 
-/// The identifier in a key's pairs, which may be absent. None exactly where it is no byte string.
-fn kid_bytes(pairs: &[Pair]) -> Option<Option<&[u8]>>
-    ensures { option_map (λ kid. option_map (λ x. x.now) kid) result ≡ kid_if (field KEY_KID pairs.now) }
+/// The key of a map's pairs.
+fn read_pairs(alloc: Global, pairs: &[Pair]) -> Result<CoseKey, KeyFault>
+    ensures { Answers KeyFault.NoMemory (key_in pairs.now) result }
 {
-    match field(pairs, KEY_KID) {
-        None => Some(None),
-        Some(item) => Some(Some(item.as_bytes()?)),
-    }
-}
-
-/// The public part in a key's pairs. None exactly where no byte string is there.
-fn public_bytes(pairs: &[Pair]) -> Option<&[u8]>
-    ensures { option_map (λ x. x.now) result ≡ bytes_if (Views.negative_field KEY_PUB pairs.now) }
-{
-    negative_field(pairs, KEY_PUB)?.as_bytes()
-}
-
-/// A copy of bytes that may be absent.
-fn copy_if(alloc: Global, bytes: Option<&[u8]>) -> OrMemory<Option<Octets>>
-    ensures { IfOk result (λ copy. copy ≡ option_map (λ x. x.now) bytes.entry) }
-{
-    match bytes {
-        None => Ok(None),
-        Some(bytes) => Ok(Some(Octets::from_slice(alloc, bytes)?)),
-    }
-}
-
-/// Reads a COSE_Key that is an item already.
-fn read_item(alloc: Global, item: &Item) -> Result<CoseKey, KeyFault>
-    ensures { KeyReadAs item.now result }
-{
-    let Some(pairs) = item.as_map() else {
-        return Err(KeyFault::Shape);
-    };
     if !is_for_hss_lms(pairs) {
         return Err(KeyFault::Shape);
     }
-    let Some(kid) = kid_bytes(pairs) else {
-        return Err(KeyFault::Shape);
-    };
-    let Some(public) = public_bytes(pairs) else {
-        return Err(KeyFault::Shape);
-    };
-    let kid = copy_if(alloc, kid)?;
-    let public = Octets::from_slice(alloc, public)?;
+    let shape = KeyFault::Shape;
+    let kid = read_known::<_, _, ByteString>(alloc, pairs, KEY_KID, shape)?;
+    let public = negative_field(pairs, KEY_PUB);
+    let public = read_required::<_, _, ByteString>(alloc, public, shape, shape)?;
     Ok(CoseKey { kid, public })
 }
 
+/// The key of an item.
+fn read_item(alloc: Global, item: &Item) -> Result<CoseKey, KeyFault>
+    ensures { Answers KeyFault.NoMemory (key_of item.now) result }
+{
+    match item.as_map() {
+        Some(pairs) => read_pairs(alloc, pairs),
+        None => Err(KeyFault::Shape),
+    }
+}
+
+/// The key that bytes are.
+fn read_bytes(alloc: Global, bytes: &[u8]) -> Result<CoseKey, KeyFault>
+    ensures { BytesAnswer KeyFault.NoMemory (λ f. KeyFault.NotCbor f) key_of bytes.now result }
+{
+    match decode_whole(alloc, bytes) {
+        Ok(item) => read_item(alloc, &item),
+        Err(CborFault::Bad(fault)) => Err(KeyFault::NotCbor(fault)),
+        Err(CborFault::NoMemory) => Err(KeyFault::NoMemory),
+    }
+}
+
 impl CoseKey {
-    ghost use Rattle.cose_core.specs.Key.{KeyIs, KeyRefusedAs, IsKeyFound, IsKeyRefused, written_key};
+    ghost use Rattle.cose_core.specs.Key.{KeyIs, KeyRefusedAs, written_key};
 
     /// Reads the COSE_Key that all the bytes spell (RFC 9052, section 7; RFC 8778, section 3).
     ///
@@ -106,14 +96,13 @@ impl CoseKey {
         // What is found is the key that the bytes are.
         ensures found { IfOk result (λ v. KeyIs v bytes.now) }
         // The key that the bytes are is found, unless memory runs out.
-        ensures only { (v : CoseKey) → KeyIs v bytes.now → IsKeyFound result v }
+        ensures only { (v : CoseKey) → KeyIs v bytes.now → IsAnswer KeyFault.NoMemory result (Ok v) }
         // A refusal has its cause in the bytes, or memory ran out.
-        ensures bad { IfErr result (λ e. (e ≡ KeyFault.NoMemory) ⊎ KeyRefusedAs bytes.now e) }
+        ensures bad { (e : KeyFault) → result ≡ Err e → (e ≡ KeyFault.NoMemory) ⊎ KeyRefusedAs bytes.now e }
         // What the bytes are refused for is the answer, unless memory runs out.
-        ensures refused { (e : KeyFault) → KeyRefusedAs bytes.now e → IsKeyRefused result e }
+        ensures refused { (e : KeyFault) → KeyRefusedAs bytes.now e → IsAnswer KeyFault.NoMemory result (Err e) }
     {
-        let item = decode_whole(alloc, bytes)?;
-        read_item(alloc, &item)
+        read_bytes(alloc, bytes)
     }
 
     /// The key as an item.

@@ -6,9 +6,8 @@ ghost use Rattle.cose_core.specs.Sign1 as Sign1s;
 use crate::fault::CoseFault;
 use crate::headers::{are_good, check_protected};
 use crate::labels::{HEADER_KID, SIGN1_TAG};
-use cbor_core::{
-    Boxed, Item, List, Octets, OrMemory, Pair, copy_pairs, decode_whole, encode, field, is_proper,
-};
+use base_types::{Boxed, List, Octets, OrMemory};
+use cbor_core::{Item, Pair, copy_pairs, decode_whole, encode, field, is_proper};
 use cbor_fields::{into_bytes, into_map};
 use std::alloc::Global;
 

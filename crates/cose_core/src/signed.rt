@@ -2,7 +2,8 @@ ghost use Rattle.std.specs.Prelude.{◌≡◌, IfOk};
 ghost use Rattle.cbor_core.specs.Spelling.{Spells};
 ghost use Rattle.cose_core.specs.Signed.{signed_item};
 
-use cbor_core::{Item, List, Octets, OrMemory, Utf8, encode};
+use base_types::{List, Octets, OrMemory, Utf8};
+use cbor_core::{Item, encode};
 use std::alloc::Global;
 
 /// The bytes that a signature is of (RFC 9052, section 4.4): the encoding of

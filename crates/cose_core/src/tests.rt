@@ -1,5 +1,6 @@
 use crate::{CoseFault, CoseKey, KeyFault, Sign1, exactly_one, signed_bytes};
-use cbor_core::{Fault, Item, List, Octets, Pair, Why};
+use base_types::{List, Octets};
+use cbor_core::{Fault, Item, Pair, Why};
 use std::alloc::Global;
 use std::test::Fail;
 

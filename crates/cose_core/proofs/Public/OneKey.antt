@@ -1,62 +1,36 @@
 -- Bytes are one COSE_Key, or have one refusal, and never both.
-use Rattle.std.proofs.Common.{◌≡◌, ℕ, List, refl, ap, inl, inr}
+use Rattle.std.proofs.Common.{◌≡◌, ◌⊎◌, ℕ, List, sym, ◌∙◌, inl, inr}
+use Rattle.std.specs.Prelude.{Result, Ok, Err}
+use Rattle.base_types.specs.Bytes.{IsBytes}
 use Rattle.cbor_core.specs.declared.fault.Fault.{Fault}
+use Rattle.item_codec.specs.Whole.{BytesGive}
+use Rattle.item_codec.proofs.Public.Whole as whole
 use Rattle.cose_core.specs.declared.key.CoseKey.{CoseKey}
 use Rattle.cose_core.specs.declared.fault.KeyFault.{KeyFault}
 use Rattle.cose_core.specs.declared.fault.KeyFault.TheVariants as faults
-use Rattle.cose_core.specs.Key.{KeyIs, IsKeyItem, KeyRefusedAs}
-use Rattle.cose_core.specs.Law.{ExactlyOne, OneKey}
-use Rattle.cose_core.proofs.Keys.{key_at, one_key_of_bytes}
-use Rattle.cose_core.proofs.Wholes.{SpellsOne, FailsOnce, whole_or_fault, no_fault}
-use Rattle.cose_core.proofs.KeysThere.{key_or_not}
+use Rattle.cose_core.specs.Key.{KeyIs, KeyRefusedAs, key_of}
+use Rattle.cose_core.specs.Law.{OneKey}
+use Rattle.cose_core.proofs.Keys.{key_settled}
 
 -- bytes are one key at most
 pub one_key : (bytes : List ℕ) (v w : CoseKey) → KeyIs v bytes → KeyIs w bytes → v ≡ w
-one_key = one_key_of_bytes
+one_key bytes v w is other = whole.one_value key_of bytes v w is other
 
 -- a key's bytes have no refusal
 pub key_not_refused : (bytes : List ℕ) (v : CoseKey) (e : KeyFault) → KeyIs v bytes → KeyRefusedAs bytes e → ⊥
-key_not_refused bytes v (faults.NotCbor f) is refused = no_fault bytes is.item f is.spelled refused
-key_not_refused bytes v faults.Shape is refused = refused.no_key v is
-key_not_refused bytes v faults.NoMemory is refused = refused
+key_not_refused bytes v e is refused = whole.not_both key_of bytes (λ f. faults.NotCbor f) v e is refused
 
-module _ (bytes : List ℕ) where
-  value : (v : CoseKey) → KeyIs v bytes → ExactlyOne (λ (w : CoseKey). KeyIs w bytes) (λ (e : KeyFault). KeyRefusedAs bytes e)
-  value v is = inl (record { value = v; is = is; alone = λ w other. one_key bytes w v other is; no_refusal = λ e refused. key_not_refused bytes v e is refused })
-
-  by_item : (one : SpellsOne bytes) → ((v : CoseKey) → IsKeyItem v one.item → ⊥) → ExactlyOne (λ (w : CoseKey). KeyIs w bytes) (λ (e : KeyFault). KeyRefusedAs bytes e)
-  by_item one none = inr (record {
-    fault = faults.Shape;
-    refused = record { item = one.item; spelled = one.spelled; no_key = no_key };
-    alone = is_shape;
-    no_value = no_key;
-  }) where
-    no_key : (v : CoseKey) → KeyIs v bytes → ⊥
-    no_key v is = none v (key_at bytes one.item v one.spelled is)
-
-    is_shape : (e : KeyFault) → KeyRefusedAs bytes e → e ≡ faults.Shape
-    is_shape (faults.NotCbor f) bad = absurd (one.no_fault f bad)
-    is_shape faults.Shape bad = refl
-    is_shape faults.NoMemory bad = absurd bad
-
-  by_fault : FailsOnce bytes → ExactlyOne (λ (w : CoseKey). KeyIs w bytes) (λ (e : KeyFault). KeyRefusedAs bytes e)
-  by_fault fails = inr (record {
-    fault = faults.NotCbor fails.fault;
-    refused = fails.faulty;
-    alone = is_not_cbor;
-    no_value = λ v is. fails.no_item is.item is.spelled;
-  }) where
-    is_not_cbor : (e : KeyFault) → KeyRefusedAs bytes e → e ≡ faults.NotCbor fails.fault
-    is_not_cbor (faults.NotCbor f) bad = ap (λ (g : Fault). faults.NotCbor g) (fails.alone f bad)
-    is_not_cbor faults.Shape bad = absurd (fails.no_item bad.item bad.spelled)
-    is_not_cbor faults.NoMemory bad = absurd bad
+cbor_told : (f : Fault) → faults.NotCbor f ≡ faults.NoMemory → ⊥
+cbor_told f e = cc
 
 -- bytes are a key, or have a refusal
 pub key_or_refused : OneKey
-key_or_refused bytes are = elim (whole_or_fault bytes are) [
-  | inl one ↦ elim (key_or_not one.item) [
-    | inl found ↦ value bytes found.0 (record { item = one.item; spelled = one.spelled; key = found.1 })
-    | inr none ↦ by_item bytes one none
-  ]
-  | inr fails ↦ by_fault bytes fails
-]
+key_or_refused bytes are = whole.one_answer faults.NoMemory (λ f. faults.NotCbor f) cbor_told key_of key_settled bytes are
+
+by_answer : (bytes : List ℕ) (r : Result CoseKey KeyFault) → BytesGive (λ f. faults.NotCbor f) key_of bytes r → ((v : CoseKey) × KeyIs v bytes) ⊎ ((v : CoseKey) → KeyIs v bytes → ⊥)
+by_answer bytes (Ok v) is = inl (v, is)
+by_answer bytes (Err e) refused = inr (λ v is. key_not_refused bytes v e is refused)
+
+-- bytes are a key, or none
+pub key_or_none : (bytes : List ℕ) → IsBytes bytes → ((v : CoseKey) × KeyIs v bytes) ⊎ ((v : CoseKey) → KeyIs v bytes → ⊥)
+key_or_none bytes are = let one = key_or_refused bytes are in by_answer bytes one.answer one.given
