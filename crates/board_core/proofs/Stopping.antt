@@ -6,7 +6,8 @@ use Rattle.std.proofs.lemmas.List.{append-nil, length-replicate, take_more, take
 use Rattle.std.proofs.lemmas.List.Sums.{fold-append}
 use Rattle.std.proofs.lemmas.List.Folds.{list_all-append}
 use Rattle.std.proofs.Math.Seq.{drop-cons}
-use Rattle.board_core.specs.Moments.{Begins, SameOutside}
+use Rattle.outside_core.specs.Stream.{Begins}
+use Rattle.board_core.specs.Moments.{SameOutside}
 use Rattle.board_core.specs.Replay.{State, fresh, done, step, replay, Inside, LeftFrom, fits, all_fit}
 use Rattle.board_core.specs.ReplayLaws.{sound, sound_fresh, written_torn, done_short, torn_same, now_left, le_of, and_true}
 use Rattle.board_core.specs.Stops.{left_in, left_in_put, sent_by, begun_by, let_out, is_good_sync, EndsSynced, StopLeaves}

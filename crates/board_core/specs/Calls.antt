@@ -1,71 +1,61 @@
 -- What each call of a board changes, and what it leaves.
-use Rattle.std.specs.Prelude.{◌≡◌, ◌+◌, ◌≤◌, ◌++◌, List, [], ℕ, IsTrue, IfOk, OnOk, OnErr, length, take, drop, Result}
-use Rattle.base_types.specs.Causes.{HasCause}
-use Rattle.board_core.specs.Contents.{Contents, Faults, Silent, Same}
-use Rattle.board_core.specs.Moments.{SameOutside, SendsSome, written}
+use Rattle.std.specs.Prelude.{◌≡◌, ◌+◌, ◌≤◌, List, ℕ, IsTrue, OnOk, OnErr, length, take, drop, Result}
+use Rattle.base_types.specs.Causes.{HasCause, CausedBy}
+use Rattle.outside_core.specs.Stream.{Sends}
+use Rattle.board_core.specs.Contents.{View, Silent, SameDisk, Same}
+use Rattle.board_core.specs.Moments.{SameOutside, Passes, NoMoment, written}
 
--- a call changes the count of its own kind alone
-pub record ReadCause {T E : Type 0} (old new : Faults) (result : Result T E) : Type 0 where
-  pub cause : HasCause old.read new.read result
-  pub send : new.send ≡ old.send
-  pub disk : new.disk ≡ old.disk
+-- what reads leave as it was: all but the count of failed reads, the input and the time
+pub record ReadAlone (told : Type 0) (old new : View) : Type 0 where
+  pub send : new.faults.send ≡ old.faults.send
+  pub disk : new.faults.disk ≡ old.faults.disk
+  pub extent : new.extent ≡ old.extent
+  pub same : told → SameDisk old new
+  pub moments : told → Passes old new NoMoment
 
-pub record SendCause {T E : Type 0} (old new : Faults) (result : Result T E) : Type 0 where
-  pub cause : HasCause old.send new.send result
-  pub read : new.read ≡ old.read
-  pub disk : new.disk ≡ old.disk
+-- a failed send is counted, and nothing else is
+pub record SendCause {T E : Type 0} (old new : View) (result : Result T E) : Type 0 where
+  pub cause : HasCause old.faults.send new.faults.send result
+  pub read : new.faults.read ≡ old.faults.read
+  pub disk : new.faults.disk ≡ old.faults.disk
+  pub extent : new.extent ≡ old.extent
 
-pub record DiskCause {T E : Type 0} (old new : Faults) (result : Result T E) : Type 0 where
-  pub cause : HasCause old.disk new.disk result
-  pub read : new.read ≡ old.read
-  pub send : new.send ≡ old.send
+-- a failed call of the disk is counted, and nothing else is
+pub record DiskCause {T E : Type 0} (old new : View) (result : Result T E) : Type 0 where
+  pub cause : HasCause old.faults.disk new.faults.disk result
+  pub read : new.faults.read ≡ old.faults.read
+  pub send : new.faults.send ≡ old.faults.send
+  pub extent : new.extent ≡ old.extent
 
--- n bytes come off the front of the rest; none only where it has ended
-pub record Gives (n : ℕ) (buf : List ℕ) (old new : Contents) : Type 0 where
-  pub front : old.rest ≡ take n buf ++ new.rest
-  pub taken : new.taken ≡ old.taken + n
-  pub ended : n ≡ 0 → old.rest ≡ []
+-- the same for an answer of any kind, of which some are failures of the disk
+pub record DiskCausedBy (failed : Type 0) (old new : View) : Type 0 where
+  pub cause : CausedBy failed old.faults.disk new.faults.disk
+  pub read : new.faults.read ≡ old.faults.read
+  pub send : new.faults.send ≡ old.faults.send
+  pub extent : new.extent ≡ old.extent
 
--- nothing comes
-pub record GivesNone (old new : Contents) : Type 0 where
-  pub rest : new.rest ≡ old.rest
-  pub taken : new.taken ≡ old.taken
+-- the bytes go out, or a front of them where it fails
+pub record SendsOut {T E : Type 0} (bytes : List ℕ) (result : Result T E) (old new : View) : Type 0 where
+  pub stream : Sends bytes result old.now.stream new.now.stream
+  pub disk : SameDisk old new
 
-pub record Reads {E : Type 0} (buf : List ℕ) (result : Result ℕ E) (old new : Contents) : Type 0 where
-  pub ok : IfOk result (λ n. Gives n buf old new)
-  pub err : OnErr result (GivesNone old new)
-  pub stored : new.stored ≡ old.stored
-  pub sent : new.sent ≡ old.sent
-  pub bytes : new.bytes ≡ old.bytes
-  pub clean : new.clean ≡ old.clean
-
--- all of the bytes at Ok, and a front of them else
-pub record Sends {T E : Type 0} (bytes : List ℕ) (result : Result T E) (old new : Contents) : Type 0 where
-  pub ok : OnOk result (new.sent ≡ old.sent ++ bytes)
-  pub some : SendsSome bytes old.sent new.sent
-  pub taken : new.taken ≡ old.taken
-  pub rest : new.rest ≡ old.rest
-  pub stored : new.stored ≡ old.stored
-  pub image : new.bytes ≡ old.bytes
-  pub clean : new.clean ≡ old.clean
-
-pub record Loads {T E : Type 0} (at : ℕ) (buf : List ℕ) (result : Result T E) (old new : Contents) : Type 0 where
-  pub ok : OnOk result (buf ≡ take (length buf) (drop at old.bytes))
+-- the buffer gets what the image holds there; where it fails, it may hold anything
+pub record Loads {T E : Type 0} (at : ℕ) (buf : List ℕ) (result : Result T E) (old new : View) : Type 0 where
+  pub ok : OnOk result (buf ≡ take (length buf) (drop at old.now.disk.bytes))
   pub same : Same old new
 
--- at a failure the range may hold any bytes, and the bytes may be counted in part
-pub record Puts {T E : Type 0} (at : ℕ) (bytes : List ℕ) (result : Result T E) (old new : Contents) : Type 0 where
-  pub ok : OnOk result (new.bytes ≡ written old.bytes at bytes)
-  pub outside : SameOutside at (length bytes) old.bytes new.bytes
+-- the image gets the bytes; where it fails, the range may hold any bytes, and the bytes may be counted in part
+pub record Puts {T E : Type 0} (at : ℕ) (bytes : List ℕ) (result : Result T E) (old new : View) : Type 0 where
+  pub ok : OnOk result (new.now.disk.bytes ≡ written old.now.disk.bytes at bytes)
+  pub outside : SameOutside at (length bytes) old.now.disk.bytes new.now.disk.bytes
   pub silent : Silent old new
-  pub stored : old.stored ≤ new.stored
-  pub stored_most : new.stored ≤ old.stored + length bytes
-  pub stored_ok : OnOk result (new.stored ≡ old.stored + length bytes)
+  pub stored : old.now.disk.stored ≤ new.now.disk.stored
+  pub stored_most : new.now.disk.stored ≤ old.now.disk.stored + length bytes
+  pub stored_ok : OnOk result (new.now.disk.stored ≡ old.now.disk.stored + length bytes)
 
--- at a failure what was pending stays so
-pub record Syncs {T E : Type 0} (result : Result T E) (old new : Contents) : Type 0 where
-  pub ok : OnOk result (IsTrue new.clean)
-  pub err : OnErr result (new.clean ≡ old.clean)
+-- nothing is pending; where it fails, what was pending stays so
+pub record Syncs {T E : Type 0} (result : Result T E) (old new : View) : Type 0 where
+  pub ok : OnOk result (IsTrue new.now.disk.clean)
+  pub err : OnErr result (SameDisk old new)
+  pub disk : new.now.disk ≡ record old.now.disk { clean = new.now.disk.clean }
   pub silent : Silent old new
-  pub stored : new.stored ≡ old.stored
-  pub bytes : new.bytes ≡ old.bytes

@@ -2,8 +2,10 @@
 use Rattle.board_core.specs.Contents.{Faults}
 use Rattle.board_core.specs.declared.fault_counts.FaultCounts.{FaultCounts}
 
-abbrev pub no_faults : FaultCounts
+-- nothing has failed
+abbrev pub no_faults : Faults
 no_faults = record { read = 0; send = 0; disk = 0 }
 
+-- the three counts
 abbrev pub faults_in : FaultCounts → Faults
 faults_in counts = record { read = counts.read; send = counts.send; disk = counts.disk }

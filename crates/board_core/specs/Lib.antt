@@ -1,6 +1,9 @@
 pub mod Contents
 pub mod Moments
 pub mod Calls
+pub mod ReadLaws
+pub mod Ranges
+pub mod Gates
 pub mod Faulted
 pub mod Replay
 pub mod ReplayLaws
@@ -8,4 +11,3 @@ pub mod History
 pub mod Memory
 pub mod MemoryLaws
 pub mod Stops
-pub mod Gates

@@ -1,9 +1,9 @@
 -- What a board in memory holds and keeps.
-use Rattle.std.specs.Prelude.{◌≡◌, ◌++◌, ◌⊎◌, ℕ, List, [], ◌∷◌, Bool, true, false, not, length, drop, Result, is_ok, ◌==◌, IsTrue}
-use Rattle.std.specs.List.{list_any}
-use Rattle.board_core.specs.Contents.{Contents, Faults}
-use Rattle.board_core.specs.Faulted.{faults_in}
-use Rattle.board_core.specs.History.{told_by, left_by}
+use Rattle.std.specs.Prelude.{◌≡◌, ◌++◌, ◌⊎◌, ℕ, List, [], ◌∷◌, Bool, true, false, length, drop, Result, is_ok, IsTrue}
+use Rattle.outside_core.specs.Numbers.{works_at}
+use Rattle.board_core.specs.Contents.{View}
+use Rattle.board_core.specs.Faulted.{faults_in, no_faults}
+use Rattle.board_core.specs.History.{seen}
 use Rattle.board_core.specs.declared.call.Call.{Call}
 use Rattle.board_core.specs.declared.memory_board.MemoryBoard.{MemoryBoard}
 
@@ -27,20 +27,9 @@ piece_of m = m.piece
 abbrev pub is_short : MemoryBoard → Bool
 is_short m = m.short
 
-abbrev pub faults_of : MemoryBoard → Faults
-faults_of m = faults_in m.counts
-
--- what it holds follows from its calls, and from what reads have taken off its input
-abbrev pub contents : MemoryBoard → Contents
-contents m = told_by m.taken (drop m.taken m.input) m.history
-
--- a clock of a board in memory is the number of the next call
-abbrev pub left_of : MemoryBoard → ℕ → List ℕ → List ℕ → Type 0
-left_of m t sent image = left_by m.history t sent image
-
--- the call of this number works
-abbrev pub works_at : List ℕ → ℕ → Bool
-works_at failing number = not (list_any (λ n. n == number) failing)
+-- what it tells follows from its calls, and from what reads have taken off its input; its clock is the number of the next call
+abbrev pub view_of : MemoryBoard → View
+view_of m = seen (faults_in m.counts) m.taken (drop m.taken m.input) m.history
 
 -- what no call changes
 pub record KeepsSetting (old new : MemoryBoard) : Type 0 where
@@ -60,14 +49,19 @@ pub record FindsNoRoom {T E : Type 0} (result : Result T E) (old new : MemoryBoa
   pub calls : calls_of new ≡ calls_of old
   pub short : IsTrue (is_short new)
 
+-- the call is noted under its number, or finds no room for its note
 pub record IsNoted {T E : Type 0} (call : Bool → Call) (result : Result T E) (old new : MemoryBoard) : Type 0 where
   pub either : TakesNumber call result old new ⊎ FindsNoRoom result old new
   pub keeps : KeepsSetting old new
 
 -- a board of which no call was made
 pub record IsNew (input image : List ℕ) (piece : ℕ) (failing : List ℕ) (m : MemoryBoard) : Type 0 where
-  pub contents_is : contents m ≡ record { taken = 0; stored = 0; rest = input; sent = []; bytes = image; clean = true; clock = 0 }
-  pub faults : faults_of m ≡ record { read = 0; send = 0; disk = 0 }
+  pub holds : (view_of m).now ≡ record {
+    stream = record { taken = 0; rest = input; sent = [] };
+    disk = record { stored = 0; bytes = image; clean = true };
+    clock = 0;
+  }
+  pub faults : (view_of m).faults ≡ no_faults
   pub first : first_of m ≡ image
   pub calls : calls_of m ≡ []
   pub failing_is : failing_of m ≡ failing

@@ -1,11 +1,8 @@
 -- The moments of a crash: what was sent by then, and the image that the disk may hold afterwards.
 -- The disk model: each range that was put since the last good sync may hold any bytes, and every other byte is as a load gives it.
 use Rattle.std.specs.Prelude.{◌≡◌, ◌+◌, ◌≤◌, ◌⊎◌, ◌++◌, List, ℕ, length, take, drop}
-use Rattle.board_core.specs.Contents.{Contents}
-
--- the first list is how the second begins
-abbrev pub Begins : List ℕ → List ℕ → Type 0
-Begins front whole = (more : List ℕ) × (whole ≡ front ++ more)
+use Rattle.outside_core.specs.Stream.{SendsSome}
+use Rattle.board_core.specs.Contents.{View, NothingPending}
 
 -- the old with these bytes at this place
 abbrev pub written : List ℕ → ℕ → List ℕ → List ℕ
@@ -17,40 +14,46 @@ pub record SameOutside (at n : ℕ) (old new : List ℕ) : Type 0 where
   pub before : take at new ≡ take at old
   pub behind : drop (at + n) new ≡ drop (at + n) old
 
--- Time goes on by a call. Each moment since `t` is one that there was, or is one within the call; and those that there were stay.
-pub record Elapses (before now : ℕ) (past since : ℕ → List ℕ → List ℕ → Type 0) (within : List ℕ → List ℕ → Type 0) : Type 0 where
-  pub later : before ≤ now
-  pub nothing_else : (t : ℕ) (sent image : List ℕ) → t ≤ before → since t sent image → past t sent image ⊎ within sent image
-  pub keeps : (t : ℕ) (sent image : List ℕ) → t ≤ before → past t sent image → since t sent image
+-- what a crash now may leave
+abbrev pub LeftNow : View → List ℕ → List ℕ → Type 0
+LeftNow board sent image = board.left board.now.clock sent image
 
-abbrev pub Passes : Contents → Contents → (ℕ → List ℕ → List ℕ → Type 0) → (ℕ → List ℕ → List ℕ → Type 0) → (List ℕ → List ℕ → Type 0) → Type 0
-Passes old new past since within = Elapses old.clock new.clock past since within
+-- What a call did to a board beside its own effect: time went on; each moment since `t` is one that there was, or is one
+-- within the call; and those that there were stay.
+pub record Passes (old new : View) (within : List ℕ → List ℕ → Type 0) : Type 0 where
+  pub later : old.now.clock ≤ new.now.clock
+  pub nothing_else : (t : ℕ) (sent image : List ℕ) → t ≤ old.now.clock → new.left t sent image → old.left t sent image ⊎ within sent image
+  pub keeps : (t : ℕ) (sent image : List ℕ) → t ≤ old.now.clock → old.left t sent image → new.left t sent image
 
 -- a call that neither sends nor puts adds no moment
 abbrev pub NoMoment : List ℕ → List ℕ → Type 0
 NoMoment sent image = ⊥
 
--- what is sent goes on by a front of these bytes
-abbrev pub SendsSome : List ℕ → List ℕ → List ℕ → Type 0
-SendsSome bytes old new = (front : List ℕ) × Begins front bytes × (new ≡ old ++ front)
-
 -- a front of the bytes is out, and the image is one that a crash before the call might have left
-abbrev pub WithinSend : (ℕ → List ℕ → List ℕ → Type 0) → Contents → List ℕ → List ℕ → List ℕ → Type 0
-WithinSend left old bytes sent image = SendsSome bytes old.sent sent × left old.clock old.sent image
+abbrev pub WithinSend : View → List ℕ → List ℕ → List ℕ → Type 0
+WithinSend old bytes sent image = SendsSome bytes old.now.stream.sent sent × LeftNow old old.now.stream.sent image
 
 -- the image is one that a crash before the call might have left, with any bytes in the range
-abbrev pub WithinPut : (ℕ → List ℕ → List ℕ → Type 0) → Contents → ℕ → ℕ → List ℕ → List ℕ → Type 0
-WithinPut left old at n sent image = (was : List ℕ) × left old.clock sent was × SameOutside at n was image
+abbrev pub WithinPut : View → ℕ → ℕ → List ℕ → List ℕ → Type 0
+WithinPut old at n sent image = (was : List ℕ) × LeftNow old sent was × SameOutside at n was image
 
--- a crash now leaves what was sent and what a load gives, as where nothing is pending
-pub record Settled (left : ℕ → List ℕ → List ℕ → Type 0) (now : Contents) : Type 0 where
-  pub sent_is : (sent image : List ℕ) → left now.clock sent image → sent ≡ now.sent
-  pub image_is : (sent image : List ℕ) → left now.clock sent image → image ≡ now.bytes
+-- The laws of a board that tells its contents.
+pub record Lawful (board : View) : Type 0 where
+  -- the board as it stands is one of its own images
+  pub stands : LeftNow board board.now.stream.sent board.now.disk.bytes
+  -- a crash now leaves what was sent
+  pub sent_now : (sent image : List ℕ) → LeftNow board sent image → sent ≡ board.now.stream.sent
+  -- where nothing is pending, a crash now leaves what a load gives
+  pub clean_now : NothingPending board → (sent image : List ℕ) → LeftNow board sent image → image ≡ board.now.disk.bytes
+  -- what is left since a later moment is left since an earlier one
+  pub earlier : (t u : ℕ) (sent image : List ℕ) → t ≤ u → board.left u sent image → board.left t sent image
+  -- the image that is told has the length that is told
+  pub measured : length board.now.disk.bytes ≡ board.extent
+
+-- no more was sent, and the image is as it was but for a range
+abbrev pub OnlyWithin : ℕ → ℕ → View → List ℕ → List ℕ → Type 0
+OnlyWithin at n old sent image = (sent ≡ old.now.stream.sent) × SameOutside at n old.now.disk.bytes image
 
 -- no more was sent, and the image stands for the old value or for the new one
-abbrev pub OldOrNew : {S : Type 0} → (List ℕ → S → Type 0) → S → S → List ℕ → List ℕ → List ℕ → Type 0
-OldOrNew stands old new before sent image = (sent ≡ before) × (stands image old ⊎ stands image new)
-
--- no more was sent, and the image is this one but for a range
-abbrev pub OnlyWithin : ℕ → ℕ → List ℕ → List ℕ → List ℕ → List ℕ → Type 0
-OnlyWithin at size bytes before sent image = (sent ≡ before) × SameOutside at size bytes image
+abbrev pub OldOrNew : {S : Type 0} → (List ℕ → S → Type 0) → S → S → View → List ℕ → List ℕ → Type 0
+OldOrNew stands was becomes old sent image = (sent ≡ old.now.stream.sent) × (stands image was ⊎ stands image becomes)

@@ -1,7 +1,8 @@
 -- What a list of calls leaves, and what a crash inside one of them may leave.
 use Rattle.std.specs.Prelude.{◌≡◌, ◌+◌, ◌/◌, ◌⊎◌, ◌++◌, List, [], ◌∷◌, ℕ, zero, suc, Bool, true, false, length, take, leb, if◌then◌else◌}
 use Rattle.std.specs.List.{list_all}
-use Rattle.board_core.specs.Moments.{SameOutside, SendsSome, written}
+use Rattle.outside_core.specs.Stream.{SendsSome}
+use Rattle.board_core.specs.Moments.{SameOutside, written}
 use Rattle.board_core.specs.declared.call.Call.{Call}
 use Rattle.board_core.specs.declared.call.Call.TheVariants.{Read, Send, Load, Put, Sync}
 

@@ -5,7 +5,7 @@ use Rattle.std.proofs.lemmas.Bool.Decides.{nat_tests}
 use Rattle.std.proofs.Math.Seq.{drop-append-add}
 use Rattle.std.proofs.lemmas.List.{drop-drop, append-nil}
 use Rattle.std.proofs.lemmas.Grind.{common_steps}
-use Rattle.board_core.specs.Moments.{SameOutside, Elapses, written}
+use Rattle.board_core.specs.Moments.{SameOutside, written}
 use Rattle.board_core.specs.Replay.{State, fresh, done, step, replay, Between, Inside, LeftFrom, fits, all_fit}
 use Rattle.board_core.specs.declared.call.Call.{Call}
 use Rattle.board_core.specs.declared.call.Call.TheVariants.{Read, Send, Load, Put, Sync}
@@ -56,6 +56,12 @@ left_kept s [] c zero sent image le left = inl (between_inside s c sent image le
 left_kept s [] c (suc t) sent image le left = absurd (omega arith)
 left_kept s (d ∷ ds) c zero sent image le left = elim left [ inl inside ↦ inl inside | inr later ↦ inr (left_kept (step s d) ds c zero sent image (omega arith) later) ]
 left_kept s (d ∷ ds) c (suc t) sent image le left = left_kept (step s d) ds c t sent image (omega arith) left
+
+-- Time goes on by a call: each moment since `t` is one that there was, or is one within the call; and those that there were stay.
+pub record Elapses (before now : ℕ) (past since : ℕ → List ℕ → List ℕ → Type 0) (within : List ℕ → List ℕ → Type 0) : Type 0 where
+  pub later : before ≤ now
+  pub nothing_else : (t : ℕ) (sent image : List ℕ) → t ≤ before → since t sent image → past t sent image ⊎ within sent image
+  pub keeps : (t : ℕ) (sent image : List ℕ) → t ≤ before → past t sent image → since t sent image
 
 -- one more call: what is new is what that call may leave
 pub elapsed : (s : State) (cs : List Call) (c : Call) (within : List ℕ → List ℕ → Type 0)

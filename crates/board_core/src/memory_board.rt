@@ -1,5 +1,5 @@
 // A board in memory. It keeps the image that it had at first and each call, so that what a crash may leave is replayed.
-ghost use Rattle.std.specs.Prelude.{◌≡◌, ◌+◌, ◌-◌, ◌<◌, ◌≤◌, ◌++◌, [], ◌∷◌, length, drop, take, true, OnOk, OnErr, IsTrue, IfOk, min};
+ghost use Rattle.std.specs.Prelude.{◌≡◌, ◌+◌, ◌<◌, ◌≤◌, length, drop, take, min, IfOk};
 
 use crate::board::Board;
 use crate::call::Call;
@@ -8,6 +8,7 @@ use crate::fault_counts::FaultCounts;
 use crate::history::History;
 use crate::stop::Stop;
 use base_types::{Failed, List, Octets, OrMemory};
+use outside_core::{FailingCalls, Source};
 use std::alloc::Global;
 
 /// A board in memory that tells everything, fails where it is told to, and can be stopped inside any call.
@@ -22,7 +23,7 @@ pub struct MemoryBoard {
     taken: usize,
     history: History,
     piece: usize,
-    failing: List<u64>,
+    failing: FailingCalls,
     counts: FaultCounts,
     short: bool,
     ghost piece_some: { 0 < piece },
@@ -43,7 +44,8 @@ fn hand_out(input: &[u8], at: usize, piece: usize, buf: &mut [u8]) -> usize
 
 impl MemoryBoard {
     ghost use Rattle.std.specs.Prelude.{slice_get};
-    ghost use Rattle.board_core.specs.Memory.{IsNew, contents, first_of, calls_of, failing_of, left_of, is_short, works_at};
+    ghost use Rattle.board_core.specs.Memory.{IsNew, view_of, first_of, calls_of, failing_of, is_short};
+    ghost use Rattle.outside_core.specs.Numbers.{works_at};
     ghost use Rattle.board_core.specs.Replay.{fresh, replay, Inside};
     ghost use Rattle.board_core.specs.Stops.{kind_of, StopLeaves};
     ghost use Rattle.board_core.specs.declared.call.Call.{Call};
@@ -60,7 +62,7 @@ impl MemoryBoard {
         failing: List<u64>,
     ) -> OrMemory<MemoryBoard>
         requires { 0 < piece }
-        ensures { IfOk result (IsNew input image piece failing) }
+        ensures new { IfOk result (IsNew input image piece failing) }
     {
         let history = History::new(alloc, image)?;
         Ok(MemoryBoard {
@@ -69,7 +71,7 @@ impl MemoryBoard {
             taken: 0,
             history,
             piece,
-            failing,
+            failing: FailingCalls::new(failing),
             counts: FaultCounts::new(),
             short: false,
         })
@@ -77,14 +79,14 @@ impl MemoryBoard {
 
     /// The number of calls so far that found room for their note.
     pub fn calls(&self) -> u64
-        ensures { result ≡ length (calls_of self.now) }
+        ensures count { result ≡ length (calls_of self.now) }
     {
         self.history.calls.len() as u64
     }
 
     /// Whether some call found no room for its note: it failed, raised its count and took no number.
     pub fn short(&self) -> bool
-        ensures { result ≡ is_short self.now }
+        ensures short { result ≡ is_short self.now }
     {
         self.short
     }
@@ -103,8 +105,8 @@ impl MemoryBoard {
         ensures inside { (c : Call) → slice_get (calls_of self.now) call ≡ Some c →
             IfOk result (λ pair. Inside (replay (fresh (first_of self.now)) (take call (calls_of self.now))) c pair.0 pair.1) }
         ensures present { length (calls_of self.now) ≤ call →
-            IfOk result (λ pair. (pair.0 ≡ (contents self.now).sent) × (pair.1 ≡ (contents self.now).bytes)) }
-        ensures left { IfOk result (λ pair. left_of self.now call pair.0 pair.1) }
+            IfOk result (λ pair. (pair.0 ≡ (view_of self.now).now.stream.sent) × (pair.1 ≡ (view_of self.now).now.disk.bytes)) }
+        ensures left { IfOk result (λ pair. (view_of self.now).left call pair.0 pair.1) }
     {
         let calls = self.history.calls.as_slice();
         let number = call as usize;
@@ -127,47 +129,39 @@ impl MemoryBoard {
         ensures { result ≡ works_at (failing_of self.now) (length (calls_of self.now)) }
     {
         let number = self.history.calls.len() as u64;
-        !self.failing.as_slice().contains(&number)
+        self.failing.works(number)
     }
 }
 
-impl Board for MemoryBoard {
-    ghost use Rattle.std.specs.Prelude.{List, ℕ};
-    ghost use Rattle.board_core.specs.Memory.{contents, faults_of, first_of, calls_of, left_of, piece_of, IsNoted};
-    ghost use Rattle.board_core.specs.MemoryLaws.{stands_law, sent_law, clean_law, earlier_law, measured_law};
-    ghost use Rattle.board_core.specs.Moments.{Passes, NoMoment, WithinSend, WithinPut};
-    ghost use Rattle.board_core.specs.Calls.{ReadCause, SendCause, DiskCause, Reads, Sends, Loads, Puts, Syncs};
-    ghost use Rattle.board_core.specs.declared.call.Call.TheVariants.{Read, Send, Load, Put, Sync};
+impl Source for MemoryBoard {
+    ghost use Rattle.board_core.specs.Memory.{view_of, piece_of, IsNoted};
+    ghost use Rattle.board_core.specs.Calls.{ReadAlone};
+    ghost use Rattle.board_core.specs.declared.call.Call.TheVariants.{Read};
+    ghost use Rattle.board_core.specs.ReadLaws.{reads_none, reads_both};
+    ghost use Rattle.base_types.specs.Causes.{HasCause};
+    ghost use Rattle.outside_core.specs.Stream.{Reads};
 
     ghost told = { Unit {0} };
 
-    ghost faults = { faults_of };
+    ghost read_faults = { λ m. (view_of m).faults.read };
 
-    ghost extent = { λ m. length (first_of m) };
+    ghost stream = { λ m. (view_of m).now.stream };
 
-    ghost now = { contents };
+    ghost keeps = { λ old new. ReadAlone (Unit {0}) (view_of old) (view_of new) };
 
-    ghost left = { left_of };
+    ghost keeps_itself = { λ m. reads_none (Unit {0}) (view_of m) };
 
-    ghost stands = { λ m told. stands_law m.history };
+    ghost keeps_on = { λ old mid new first second. reads_both first second };
 
-    ghost sent_now = { λ m sent image told left. sent_law m.history sent image left };
-
-    ghost clean_now = { λ m sent image told clean left. clean_law m.history sent image clean left };
-
-    ghost earlier = { λ m t u sent image told le left. earlier_law m.history t u sent image le left };
-
-    ghost measured = { λ m told. measured_law m.history };
-
-    /// A read that works gives a piece, or what is left of the input where that is less, as far as the buffer goes.
+    /// A read that works gives a piece, or what is left of the input where that is less, as far as the
+    /// buffer goes.
     fn read(&mut self, buf: &mut [u8]) -> Result<usize, Failed>
         requires { 0 < length buf.old }
         ensures within { IfOk result (λ n. n ≤ length buf.new) }
-        ensures cause { ReadCause (faults_of self.old) (faults_of self.new) result }
-        ensures extent { length (first_of self.new) ≡ length (first_of self.old) }
-        ensures contents { Reads buf.new result (contents self.old) (contents self.new) }
-        ensures moments { Passes (contents self.old) (contents self.new) (left_of self.old) (left_of self.new) NoMoment }
-        ensures piece { IfOk result (λ n. n ≡ min (min (length (contents self.old).rest) (piece_of self.old)) (length buf.old)) }
+        ensures cause { HasCause (view_of self.old).faults.read (view_of self.new).faults.read result }
+        ensures stream { Reads buf.new result (view_of self.old).now.stream (view_of self.new).now.stream }
+        ensures keeps { ReadAlone (Unit {0}) (view_of self.old) (view_of self.new) }
+        ensures piece { IfOk result (λ n. n ≡ min (min (length (view_of self.old).now.stream.rest) (piece_of self.old)) (length buf.old)) }
         ensures noted { IsNoted Read result self.old self.new }
     {
         let ok = self.works();
@@ -177,29 +171,47 @@ impl Board for MemoryBoard {
                 self.taken += count;
                 Ok(count)
             }
-            Ok(()) => Err(self.counts.read_failed()),
+            Ok(()) => Err(self.counts.read.failed()),
             Err(_) => {
                 self.short = true;
-                Err(self.counts.read_failed())
+                Err(self.counts.read.failed())
             }
         }
     }
+}
+
+impl Board for MemoryBoard {
+    ghost use Rattle.board_core.specs.Memory.{view_of, IsNoted};
+    ghost use Rattle.board_core.specs.MemoryLaws.{lawful};
+    ghost use Rattle.board_core.specs.Moments.{Passes, NoMoment, WithinSend, WithinPut};
+    ghost use Rattle.board_core.specs.Calls.{SendCause, DiskCause, SendsOut, Loads, Puts, Syncs};
+    ghost use Rattle.board_core.specs.Faulted.{faults_in};
+    ghost use Rattle.board_core.specs.declared.call.Call.TheVariants.{Send, Load, Put, Sync};
+    ghost use Rattle.std.specs.Prelude.{refl};
+
+    ghost view = { view_of };
+
+    ghost reads_faults = { λ m. refl };
+
+    ghost reads_stream = { λ m told. refl };
+
+    ghost reads_keep = { λ old new keeps. keeps };
+
+    ghost laws = { λ m told. lawful (faults_in m.counts) m.taken (drop m.taken m.input) m.history };
 
     fn send(&mut self, bytes: &[u8]) -> Result<(), Failed>
-        ensures cause { SendCause (faults_of self.old) (faults_of self.new) result }
-        ensures extent { length (first_of self.new) ≡ length (first_of self.old) }
-        ensures contents { Sends bytes.now result (contents self.old) (contents self.new) }
-        ensures moments { Passes (contents self.old) (contents self.new) (left_of self.old) (left_of self.new)
-            (WithinSend (left_of self.old) (contents self.old) bytes.now) }
+        ensures cause { SendCause (view_of self.old) (view_of self.new) result }
+        ensures contents { SendsOut bytes.now result (view_of self.old) (view_of self.new) }
+        ensures moments { Passes (view_of self.old) (view_of self.new) (WithinSend (view_of self.old) bytes.now) }
         ensures noted { IsNoted (Send bytes.now) result self.old self.new }
     {
         let ok = self.works();
         match self.history.send(self.alloc, bytes, ok) {
             Ok(()) if ok => Ok(()),
-            Ok(()) => Err(self.counts.send_failed()),
+            Ok(()) => Err(self.counts.send.failed()),
             Err(_) => {
                 self.short = true;
-                Err(self.counts.send_failed())
+                Err(self.counts.send.failed())
             }
         }
     }
@@ -210,11 +222,10 @@ impl Board for MemoryBoard {
 
     /// One that fails leaves the buffer as it was.
     fn load(&mut self, at: u64, buf: &mut [u8]) -> Result<(), Failed>
-        requires { at + length buf.old ≤ length (first_of self.old) }
-        ensures cause { DiskCause (faults_of self.old) (faults_of self.new) result }
-        ensures extent { length (first_of self.new) ≡ length (first_of self.old) }
-        ensures contents { Loads at buf.new result (contents self.old) (contents self.new) }
-        ensures moments { Passes (contents self.old) (contents self.new) (left_of self.old) (left_of self.new) NoMoment }
+        requires { at + length buf.old ≤ (view_of self.old).extent }
+        ensures cause { DiskCause (view_of self.old) (view_of self.new) result }
+        ensures contents { Loads at buf.new result (view_of self.old) (view_of self.new) }
+        ensures moments { Passes (view_of self.old) (view_of self.new) NoMoment }
         ensures noted { IsNoted Load result self.old self.new }
     {
         let ok = self.works();
@@ -223,48 +234,45 @@ impl Board for MemoryBoard {
                 self.history.copy_out(at, buf);
                 Ok(())
             }
-            Ok(()) => Err(self.counts.disk_failed()),
+            Ok(()) => Err(self.counts.disk.failed()),
             Err(_) => {
                 self.short = true;
-                Err(self.counts.disk_failed())
+                Err(self.counts.disk.failed())
             }
         }
     }
 
     fn put(&mut self, at: u64, bytes: &[u8]) -> Result<(), Failed>
-        requires { at + length bytes.now ≤ length (first_of self.old) }
-        ensures cause { DiskCause (faults_of self.old) (faults_of self.new) result }
-        ensures extent { length (first_of self.new) ≡ length (first_of self.old) }
-        ensures contents { Puts at bytes.now result (contents self.old) (contents self.new) }
-        ensures moments { Passes (contents self.old) (contents self.new) (left_of self.old) (left_of self.new)
-            (WithinPut (left_of self.old) (contents self.old) at (length bytes.now)) }
+        requires { at + length bytes.now ≤ (view_of self.old).extent }
+        ensures cause { DiskCause (view_of self.old) (view_of self.new) result }
+        ensures contents { Puts at bytes.now result (view_of self.old) (view_of self.new) }
+        ensures moments { Passes (view_of self.old) (view_of self.new) (WithinPut (view_of self.old) at (length bytes.now)) }
         ensures noted { IsNoted (Put at bytes.now) result self.old self.new }
     {
         let ok = self.works();
         match self.history.put(self.alloc, at, bytes, ok) {
             Ok(()) if ok => Ok(()),
-            Ok(()) => Err(self.counts.disk_failed()),
+            Ok(()) => Err(self.counts.disk.failed()),
             Err(_) => {
                 self.short = true;
-                Err(self.counts.disk_failed())
+                Err(self.counts.disk.failed())
             }
         }
     }
 
     fn sync(&mut self) -> Result<(), Failed>
-        ensures cause { DiskCause (faults_of self.old) (faults_of self.new) result }
-        ensures extent { length (first_of self.new) ≡ length (first_of self.old) }
-        ensures contents { Syncs result (contents self.old) (contents self.new) }
-        ensures moments { Passes (contents self.old) (contents self.new) (left_of self.old) (left_of self.new) NoMoment }
+        ensures cause { DiskCause (view_of self.old) (view_of self.new) result }
+        ensures contents { Syncs result (view_of self.old) (view_of self.new) }
+        ensures moments { Passes (view_of self.old) (view_of self.new) NoMoment }
         ensures noted { IsNoted Sync result self.old self.new }
     {
         let ok = self.works();
         match self.history.idle(Call::Sync { ok }) {
             Ok(()) if ok => Ok(()),
-            Ok(()) => Err(self.counts.disk_failed()),
+            Ok(()) => Err(self.counts.disk.failed()),
             Err(_) => {
                 self.short = true;
-                Err(self.counts.disk_failed())
+                Err(self.counts.disk.failed())
             }
         }
     }

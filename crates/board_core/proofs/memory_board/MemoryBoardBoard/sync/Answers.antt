@@ -1,19 +1,15 @@
-use Rattle.std.proofs.Common.{drop, Bool, subst}
-use Rattle.board_core.specs.History.{Noted}
-use Rattle.board_core.specs.declared.call.Call.TheVariants.{Sync}
-use Rattle.board_core.proofs.Told.{sync_ok, sync_err, sync_moments}
+use Rattle.std.proofs.Common.{drop}
+use Rattle.board_core.proofs.Told.{sync_told, sync_moments}
 use Rattle.board_core.proofs.memory_board.MemoryBoardBoard.sync.Goals as goal
 
 pub returns-in-Ok-clause-contents : goal.returns-in-Ok-clause-contents
-returns-in-Ok-clause-contents c =
-    sync_ok c.args.self.now.taken (drop c.args.self.now.taken c.args.self.now.input) c.args.self.now.history c.idle.new.self (subst (λ (b : Bool). Noted (Sync b) c.args.self.now.history c.idle.new.self) c.if-ok.true c.in-Ok.ensures.ok)
+returns-in-Ok-clause-contents c = let m = c.args.self.now in sync_told _ _ m.taken (drop m.taken m.input) m.history c.idle.new.self _ _ c.if-ok.true tt c.in-Ok.ensures.ok
 
 pub returns-in-Ok-clause-moments : goal.returns-in-Ok-clause-moments
-returns-in-Ok-clause-moments c = sync_moments _ c.args.self.now.history c.idle.new.self c.in-Ok.ensures.ok
+returns-in-Ok-clause-moments c = let m = c.args.self.now in sync_moments _ _ m.taken m.taken (drop m.taken m.input) _ m.history c.idle.new.self _ c.in-Ok.ensures.ok
 
 pub returns-in-Ok-2-clause-contents : goal.returns-in-Ok-2-clause-contents
-returns-in-Ok-2-clause-contents c =
-    sync_err _ c.args.self.now.taken (drop c.args.self.now.taken c.args.self.now.input) c.args.self.now.history c.idle.new.self (subst (λ (b : Bool). Noted (Sync b) c.args.self.now.history c.idle.new.self) c.if-ok.false c.in-Ok.ensures.ok)
+returns-in-Ok-2-clause-contents c = let m = c.args.self.now in sync_told _ _ m.taken (drop m.taken m.input) m.history c.idle.new.self _ _ tt c.if-ok.false c.in-Ok.ensures.ok
 
 pub returns-in-Ok-2-clause-moments : goal.returns-in-Ok-2-clause-moments
-returns-in-Ok-2-clause-moments c = sync_moments _ c.args.self.now.history c.idle.new.self c.in-Ok.ensures.ok
+returns-in-Ok-2-clause-moments c = let m = c.args.self.now in sync_moments _ _ m.taken m.taken (drop m.taken m.input) _ m.history c.idle.new.self _ c.in-Ok.ensures.ok

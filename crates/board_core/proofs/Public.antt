@@ -1,0 +1,4 @@
+pub mod Chaining
+pub mod Counts
+pub mod Ranges
+pub mod Gating
