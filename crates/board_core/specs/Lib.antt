@@ -11,3 +11,4 @@ pub mod History
 pub mod Memory
 pub mod MemoryLaws
 pub mod Stops
+pub mod Files
