@@ -8,6 +8,7 @@ It shares no line with the proved programs. `device.py DIR` writes `agent.img`, 
 import os
 import sys
 
+sys.dont_write_bytecode = True
 from hss import Tree, hashed, u
 
 PROTECTED = bytes.fromhex("a101382d")

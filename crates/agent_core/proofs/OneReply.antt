@@ -5,7 +5,7 @@ use Rattle.teep_messages.specs.declared.message.Message.{Message as TeepMessage}
 use Rattle.teep_messages.specs.declared.message.Message.TheVariants as kinds
 use Rattle.teep_messages.proofs.Exact.{one_message, not_both}
 use Rattle.teep_messages.proofs.Written.{one_spelling}
-use Rattle.agent_core.specs.Frames.{Frame}
+use Rattle.frames.specs.Frames.{Frame}
 use Rattle.cose_core.specs.declared.sign1.Sign1.{Sign1}
 use Rattle.trust_anchors.specs.declared.anchors.Anchors.{Anchors}
 use Rattle.agent_core.specs.Answers.{message_frame, response, Answers, AnswersBytes, AnswersMessage, AnswersToken, RefusesBytes, AnswersSigned, RefusesUnsigned, AnswersContent, AnswersEnvelope, RefusesEnvelope, Replies}

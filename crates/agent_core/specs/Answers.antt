@@ -13,7 +13,7 @@ use Rattle.cose_core.specs.Sign1 as Cose
 use Rattle.trust_anchors.specs.declared.anchors.Anchors.{Anchors}
 use Rattle.trust_anchors.specs.declared.role.Role.TheVariants as role
 use Rattle.trust_anchors.specs.Verified.{Verified}
-use Rattle.agent_core.specs.Frames.{Frame}
+use Rattle.frames.specs.Frames.{Frame}
 use Rattle.agent_core.specs.Refusals.{number_of}
 use Rattle.agent_core.specs.declared.refusal.Refusal.{Refusal}
 use Rattle.agent_core.specs.declared.refusal.Refusal.TheVariants.{Kind, NotCose, NotSigned, NotMessage, NotForAgent}

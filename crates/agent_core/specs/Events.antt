@@ -1,6 +1,6 @@
 -- What a frame into the agent is.
 use Rattle.std.specs.Prelude.{ℕ, List, length, ◌==◌, ◌&&◌, if◌then◌else◌}
-use Rattle.agent_core.specs.Frames.{Frame}
+use Rattle.frames.specs.Frames.{Frame}
 use Rattle.agent_core.specs.declared.event.Event.{Event}
 use Rattle.agent_core.specs.declared.event.Event.TheVariants.{Message, Payload, FetchFailed, Strange}
 

@@ -1,4 +1,3 @@
-pub mod Frames
 pub mod Refusals
 pub mod Events
 pub mod Answers

@@ -1,5 +1,5 @@
 -- A reply of the program as a frame.
-use Rattle.agent_core.specs.Frames.{Frame}
+use Rattle.frames.specs.Frames.{Frame}
 use Rattle.agent_core.specs.declared.reply.Reply.{Reply}
 
 abbrev pub frame_of : Reply → Frame

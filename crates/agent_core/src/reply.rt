@@ -1,7 +1,8 @@
 ghost use Rattle.std.specs.Prelude.{◌≡◌, ◌<◌, ◌^◌, length, IfOk};
-ghost use Rattle.agent_core.specs.Frames.{frame_bytes};
+ghost use Rattle.frames.specs.Frames.{frame_bytes};
 
 use base_types::{Octets, OrMemory};
+use frames::frame_of as encode;
 use std::alloc::Global;
 
 /// A reply of the agent, and the frame that carries it: the kind, the length of the body as four
@@ -22,16 +23,11 @@ impl Reply {
 
     /// The reply of this kind with this body, which is shorter than 2^32 bytes. Refused for want of
     /// memory alone.
-    #[tactic(auto, unfolding(crate::specs::Frames::four_bytes))]
     pub fn new(alloc: Global, kind: u8, body: Octets) -> OrMemory<Reply>
         requires { length body < 2 ^ 32 }
-        ensures { IfOk result (λ reply. frame_of reply ≡ record { kind = kind; body = body }) }
+        ensures reply { IfOk result (λ reply. frame_of reply ≡ record { kind = kind; body = body }) }
     {
-        let size = body.len() as u32;
-        let mut frame = Octets::new(alloc);
-        frame.push(kind)?;
-        frame.extend(&size.to_be_bytes())?;
-        frame.extend(body.as_slice())?;
+        let frame = encode(alloc, kind, body.as_slice())?;
         Ok(Reply { kind, body, frame })
     }
 }

@@ -1,15 +1,14 @@
 -- What each call of a host gives, and what it leaves.
 use Rattle.std.specs.Prelude.{◌≡◌, ◌≤◌, ◌<◌, ◌++◌, ℕ, List, length, Option, Some, Result, Ok, Err, OnOk}
-use Rattle.base_types.specs.Causes.{Rose}
+use Rattle.base_types.specs.Causes.{CausedBy}
 use Rattle.teep_tool.specs.Contents.{Contents}
 use Rattle.base_types.specs.declared.limits.TheConstants.{FILE_LIMIT}
 use Rattle.teep_tool.specs.declared.host.HostFault.{HostFault}
 use Rattle.teep_tool.specs.declared.host.HostFault.TheVariants.{Failed, Long, NoMemory}
 
--- the count does not fall, and has risen where the host failed
-pub record ReadCause (before now : ℕ) (result : Result (List ℕ) HostFault) : Type 0 where
-  pub later : before ≤ now
-  pub failed : result ≡ Err Failed → Rose before now
+-- the count has risen where the host failed, and stands where it did not
+abbrev pub ReadCause : ℕ → ℕ → Result (List ℕ) HostFault → Type 0
+ReadCause before now result = CausedBy (result ≡ Err Failed) before now
 
 -- there is such a file, and it is longer than the limit
 pub record IsLong (file : Option (List ℕ)) : Type 0 where

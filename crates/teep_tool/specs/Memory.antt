@@ -1,7 +1,8 @@
 -- What a host in memory holds and keeps.
-use Rattle.std.specs.Prelude.{◌≡◌, ◌+◌, ◌-◌, ◌^◌, ℕ, min, List, [], Bool, true, false, not, Option, None, Some, option_map, Result, Ok, Err, ◌==◌, nat_eq, string_bytes}
-use Rattle.std.specs.List.{list_any, find}
+use Rattle.std.specs.Prelude.{◌≡◌, ℕ, List, [], Bool, true, false, Option, None, Some, option_map, Result, Ok, Err, nat_eq, string_bytes}
+use Rattle.std.specs.List.{find}
 use Rattle.std.specs.Cmp.Lexicographic.{pointwise}
+use Rattle.outside_core.specs.Numbers.{works_at, numbered}
 use Rattle.teep_tool.specs.Contents.{Contents}
 use Rattle.teep_tool.specs.declared.host.HostFault.{HostFault}
 use Rattle.teep_tool.specs.declared.host.HostFault.TheVariants.{Failed, Long, NoMemory}
@@ -20,19 +21,19 @@ faults_of m = m.faults
 
 -- the number of the next call
 abbrev pub next_of : MemoryHost → ℕ
-next_of m = m.calls
+next_of m = m.calls.next
 
 -- the numbers of the calls that are to fail
 abbrev pub failing_of : MemoryHost → List ℕ
-failing_of m = m.failing
+failing_of m = m.calls.failing
 
 -- the next call works
 abbrev pub works : MemoryHost → Bool
-works m = not (list_any (λ n. n == next_of m) (failing_of m))
+works m = works_at (failing_of m) (next_of m)
 
--- a call takes the next number, as long as there is one, and its number alone says whether it works
+-- a call takes the next number, and its number alone says whether it works
 pub record TakesNumber (old new : MemoryHost) : Type 0 where
-  pub next : next_of new ≡ min (next_of old + 1) (2 ^ 64 - 1)
+  pub next : next_of new ≡ numbered (next_of old)
   pub failing : failing_of new ≡ failing_of old
 
 -- a read whose number works fails only where no file has the name

@@ -1,10 +1,9 @@
 // Files of the system, and standard output.
-ghost use Rattle.std.specs.Prelude.{◌≡◌, ◌≤◌, ◌+◌, ℕ, [], length, None, Err, IfOk, IfSome};
-ghost use Rattle.base_types.specs.Causes.{HasCause};
-ghost use Rattle.teep_tool.specs.Calls.{ReadCause};
+ghost use Rattle.std.specs.Prelude.{◌≡◌, ◌≤◌, ◌+◌, ℕ, [], length, None, IfOk, IfSome};
 
 use crate::host::{Host, HostFault};
 use base_types::{FILE_LIMIT, Failed, Octets};
+use outside_core::FaultCount;
 use std::alloc::Global;
 use std::fs::{File, OpenFile};
 use std::io::{self, ErrorKind, Read};
@@ -18,7 +17,7 @@ use std::rt::Files;
 pub struct FileHost<'a, R: Files + Print> {
     rt: &'a R,
     alloc: Global,
-    faults: u64,
+    faults: FaultCount,
 }
 
 impl<'a, R: Files + Print> FileHost<'a, R> {
@@ -29,17 +28,8 @@ impl<'a, R: Files + Print> FileHost<'a, R> {
         FileHost {
             rt,
             alloc,
-            faults: 0,
+            faults: FaultCount::new(),
         }
-    }
-
-    // Counts a fault.
-    fn failed(&mut self) -> Failed
-        ensures cause { HasCause {T = Unit {0}} self.old.faults self.new.faults (Err result) }
-        ensures read { ReadCause self.old.faults self.new.faults (Err HostFault.Failed) }
-    {
-        self.faults = self.faults.saturating_add(1);
-        Failed
     }
 }
 
@@ -73,7 +63,7 @@ impl<'a, R: Files + Print> Host for FileHost<'a, R> {
             Ok(None) => Err(HostFault::Long),
             Err(error) if error.kind() == ErrorKind::OutOfMemory => Err(HostFault::NoMemory),
             Err(_) => {
-                self.failed();
+                self.faults.failed();
                 Err(HostFault::Failed)
             }
         }
@@ -82,7 +72,7 @@ impl<'a, R: Files + Print> Host for FileHost<'a, R> {
     fn print(&mut self, text: &str) -> Result<(), Failed> {
         match Print::write_all(self.rt, text.as_bytes()) {
             Ok(()) => Ok(()),
-            Err(_) => Err(self.failed()),
+            Err(_) => Err(self.faults.failed()),
         }
     }
 }

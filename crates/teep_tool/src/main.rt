@@ -19,22 +19,14 @@ pub use host::{Host, HostFault};
 pub use memory_host::{MemoryHost, Named};
 pub use run::run_tool;
 pub use status::Status;
+use outside_core::{WordsFault, command_words};
 use std::process::ExitCode;
-use std::rt::Env;
-use std::{env, io};
-
-// The words of the command line behind the program's name.
-fn line<R: Env + AllocGlobal>(rt: &R) -> io::Result<Vec<String>> {
-    let mut words = Vec::new(rt.alloc());
-    for word in env::args(rt)?.skip(1) {
-        words.push(word)?;
-    }
-    Ok(words)
-}
 
 fn main(rt: HostRuntime) -> ExitCode {
-    let Ok(words) = line(&rt) else {
-        return ExitCode::from(Status::Usage.number());
+    let words = match command_words(rt.alloc(), &rt) {
+        Ok(words) => words,
+        Err(WordsFault::NotText) => return ExitCode::from(Status::Usage.number()),
+        Err(WordsFault::NoMemory) => return ExitCode::from(Status::NoMemory.number()),
     };
     let mut host = FileHost::new(&rt, rt.alloc());
     ExitCode::from(run_tool(&rt, rt.alloc(), &words, &mut host))

@@ -1,10 +1,11 @@
 // A host in memory, for tests and for whoever holds the files already.
-ghost use Rattle.std.specs.Prelude.{◌≡◌, Some, Err, option_map, IfOk, IsErr, OnErr, false};
+ghost use Rattle.std.specs.Prelude.{◌≡◌, Some, Err, option_map, IsErr, OnErr, false};
 ghost use Rattle.teep_tool.specs.Calls.{Gives};
 ghost use Rattle.teep_tool.specs.Memory.{file_in};
 
 use crate::host::{Host, HostFault};
-use base_types::{FILE_LIMIT, Failed, List, Octets, OrMemory, Utf8};
+use base_types::{FILE_LIMIT, Failed, List, Octets, Utf8};
+use outside_core::{CallNumbers, FaultCount};
 use std::alloc::Global;
 
 /// A file of a host in memory.
@@ -23,10 +24,9 @@ pub struct Named {
 pub struct MemoryHost {
     alloc: Global,
     files: List<Named>,
-    failing: List<u64>,
     printed: String,
-    calls: u64,
-    faults: u64,
+    calls: CallNumbers,
+    faults: FaultCount,
 }
 
 // The bytes of the first file that has the name.
@@ -48,30 +48,29 @@ impl MemoryHost {
 
     /// A host with these files, of which no call was made and which has printed nothing.
     ///
-    /// `failing` has the numbers of the calls that are to fail. Refused for want of memory alone.
-    pub fn new(alloc: Global, files: List<Named>, failing: List<u64>) -> OrMemory<MemoryHost>
-        ensures { IfOk result (IsNew files failing) }
+    /// `failing` has the numbers of the calls that are to fail.
+    pub fn new(alloc: Global, files: List<Named>, failing: List<u64>) -> MemoryHost
+        ensures is_new { IsNew files failing result }
     {
-        Ok(MemoryHost {
+        MemoryHost {
             alloc,
             files,
-            failing,
             printed: String::new(alloc),
-            calls: 0,
-            faults: 0,
-        })
+            calls: CallNumbers::new(failing),
+            faults: FaultCount::new(),
+        }
     }
 
     /// The bytes of a file. None exactly where none has the name.
     pub fn file(&self, name: &str) -> Option<&[u8]>
-        ensures { option_map (λ bytes. bytes.now) result ≡ (contents self.now).files name.now }
+        ensures file { option_map (λ bytes. bytes.now) result ≡ (contents self.now).files name.now }
     {
         file_of(self.files.as_slice(), name)
     }
 
     /// What was printed.
     pub fn printed(&self) -> &str
-        ensures { result.now ≡ (contents self.now).printed }
+        ensures printed { result.now ≡ (contents self.now).printed }
     {
         self.printed.as_str()
     }
@@ -83,9 +82,7 @@ impl MemoryHost {
         ensures contents { contents self.new ≡ contents self.old }
         ensures faults { faults_of self.new ≡ faults_of self.old }
     {
-        let works = !self.failing.as_slice().contains(&self.calls);
-        self.calls = self.calls.saturating_add(1);
-        works
+        self.calls.begin()
     }
 
     // Counts a fault.
@@ -93,8 +90,7 @@ impl MemoryHost {
         ensures cause { HasCause {T = Unit {0}} (faults_of self.old) (faults_of self.new) (Err result) }
         ensures others { self.new ≡ record self.old { faults = self.new.faults } }
     {
-        self.faults = self.faults.saturating_add(1);
-        Failed
+        self.faults.failed()
     }
 
     // Counts a fault of a read.

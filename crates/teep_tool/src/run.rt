@@ -1,5 +1,5 @@
 ghost use Rattle.std.specs.Prelude.{◌≡◌, ◌≢◌, ◌≤◌, ◌↔◌, ℕ, List, Some};
-ghost use Rattle.base_types.specs.Causes.{Rose};
+ghost use Rattle.base_types.specs.Causes.{Rose, CausedBy};
 ghost use Rattle.teep_tool.specs.Words.{IsShow, IsCommand};
 ghost use Rattle.teep_tool.specs.Statuses.{number_of};
 ghost use Rattle.teep_tool.specs.Show.{Ran, CallsFor};
@@ -39,8 +39,7 @@ pub fn run_tool<R: Threads + Sync, H: Host>(
         result ≢ number_of Status.NoMemory →
         (name bytes : List ℕ) (status : Status) → IsShow words.now name → (H.now host.old).files name ≡ Some bytes → CallsFor bytes status →
         result ≡ number_of status }
-    ensures fault { result ≡ number_of Status.HostFault → Rose (H.faults host.old) (H.faults host.new) }
-    ensures later { H.faults host.old ≤ H.faults host.new }
+    ensures cause { CausedBy (result ≡ number_of Status.HostFault) (H.faults host.old) (H.faults host.new) }
 {
     let status = match shown_file(words) {
         Some(name) => show(alloc, name, host),

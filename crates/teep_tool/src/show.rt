@@ -1,6 +1,6 @@
 // What `show` does: it reads a file and prints the diagnostic text of its item, or why it spells none.
 ghost use Rattle.std.specs.Prelude.{◌≡◌, ◌≢◌, ◌≤◌, ℕ, List, Some, IfOk, string_bytes};
-ghost use Rattle.base_types.specs.Causes.{Rose};
+ghost use Rattle.base_types.specs.Causes.{Rose, CausedBy};
 ghost use Rattle.teep_tool.specs.Show.{Showed, CallsFor};
 ghost use Rattle.teep_tool.specs.Showing.{IsLine, ShowedBytes};
 ghost use Rattle.teep_tool.specs.declared.status.Status.{Status};
@@ -43,8 +43,7 @@ fn line_of(alloc: Global, bytes: &[u8]) -> OrMemory<Line>
 // Prints what some bytes are shown as.
 fn show_bytes<H: Host>(alloc: Global, bytes: &[u8], host: &mut H) -> Status
     ensures showed { H.told → ShowedBytes bytes.now result (H.now host.old) (H.now host.new) }
-    ensures fault { result ≡ Status.HostFault → Rose (H.faults host.old) (H.faults host.new) }
-    ensures later { H.faults host.old ≤ H.faults host.new }
+    ensures cause { CausedBy (result ≡ Status.HostFault) (H.faults host.old) (H.faults host.new) }
     ensures words { result ≢ Status.Usage }
 {
     let Ok(line) = line_of(alloc, bytes) else {
@@ -64,8 +63,7 @@ pub fn show<H: Host>(alloc: Global, name: &str, host: &mut H) -> Status
         result ≢ Status.NoMemory →
         (bytes : List ℕ) (status : Status) → (H.now host.old).files name.now ≡ Some bytes → CallsFor bytes status →
         result ≡ status }
-    ensures fault { result ≡ Status.HostFault → Rose (H.faults host.old) (H.faults host.new) }
-    ensures later { H.faults host.old ≤ H.faults host.new }
+    ensures cause { CausedBy (result ≡ Status.HostFault) (H.faults host.old) (H.faults host.new) }
     ensures words { result ≢ Status.Usage }
 {
     match host.read_file(name) {

@@ -39,7 +39,7 @@ fn run<R: Threads + Sync + AllocGlobal>(
         line.push(String::from_str(alloc, word)?)?;
     }
     let failing = List::from_vec(Vec::from_slice(alloc, failing)?);
-    let mut host = MemoryHost::new(alloc, files, failing)?;
+    let mut host = MemoryHost::new(alloc, files, failing);
     let status = run_tool(rt, alloc, &line, &mut host);
     let printed = Utf8::from_str(alloc, host.printed())?;
     Ok((status, printed))
@@ -89,7 +89,7 @@ fn a_file_above_the_limit_is_not_shown(rt: HostRuntime) -> Result<(), Fail> {
 #[test]
 fn a_host_in_memory_gives_its_files(rt: HostRuntime) -> Result<(), Fail> {
     let alloc = rt.alloc();
-    let host = MemoryHost::new(alloc, files(alloc)?, List::new(alloc))?;
+    let host = MemoryHost::new(alloc, files(alloc)?, List::new(alloc));
     for Row(name, bytes) in FILES.iter() {
         assert!(rt; host.file(*name) == Some(*bytes));
     }

@@ -12,4 +12,4 @@ returns-in-Ok-clause-exactly g c told quiet memory bytes status is calls =
     let read = c.in-Ok.ensures.contents told in
     let printed = rw c.as_slice.ensures at c.show_bytes.ensures.showed told in
     exactly_from c.args.name.now c.in-Ok.bytes bytes c.show_bytes.result status _ _ _ read printed
-    (λ fault. quiet (rose_earlier _ _ _ c.in-Ok.ensures.cause.later (c.show_bytes.ensures.fault fault))) memory is calls
+    (λ fault. quiet (rose_earlier _ _ _ c.in-Ok.ensures.cause.later (c.show_bytes.ensures.cause.fault fault))) memory is calls
