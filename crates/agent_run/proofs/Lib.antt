@@ -1,6 +1,5 @@
-pub mod Pieces
-pub mod Looks
-pub mod OneReading
+pub mod Looked
+pub mod Caused
 pub mod Looping
 pub mod Exactly
 pub mod Mounting

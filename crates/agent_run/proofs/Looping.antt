@@ -4,47 +4,44 @@ use Rattle.std.proofs.lemmas.List.{append-nil, append_cancel_right, flat_map_mor
 use Rattle.std.proofs.lemmas.List.Elements.{All-push, All-nil}
 use Rattle.std.proofs.Math.Seq.{take-append-add}
 use Rattle.std.specs.List.{All, flat_map}
-use Rattle.board_core.specs.Contents.{Contents}
+use Rattle.outside_core.specs.Stream.{Stream}
 use Rattle.trust_anchors.specs.declared.anchors.Anchors.{Anchors}
 use Rattle.component_store.specs.declared.config.Config.{Config}
-use Rattle.agent_core.specs.Frames.{Frame, frame_bytes, four_bytes}
+use Rattle.frames.specs.Frames.{Frame, frame_bytes, four_bytes}
 use Rattle.agent_core.specs.Events.{event_in}
 use Rattle.agent_core.specs.Answers.{Answers, Replies}
 use Rattle.agent_core.specs.declared.event.Event.{Event}
-use Rattle.agent_run.specs.Reading.{IsFrame, IsCut, IsPart, Splits}
-use Rattle.agent_run.specs.Reading.End.{Whole as whole_end, Long as long_end, Cut as cut_end, Spent as spent_end}
-use Rattle.agent_run.specs.Filling.{SameImage, TookSome}
-use Rattle.agent_run.specs.Nexts.{Came, PartCame, LongCame, Nexts, Grows}
-use Rattle.agent_run.specs.Turns.{Turns, OnlySent}
-use Rattle.agent_run.specs.Outcome.{Answered, AllAnswered, TakenAnswered, Outcome, Ran}
+use Rattle.frames.specs.Reading.{IsFrame, IsCut, IsPart, Splits}
+use Rattle.frames.specs.Reading.End.{Whole as whole_end, Long as long_end, Cut as cut_end, Spent as spent_end}
+use Rattle.frames.specs.Filling.{TookSome}
+use Rattle.frames.specs.Nexts.{Came, PartCame, LongCame, Nexts, Grows}
+use Rattle.agent_run.specs.Turns.{Turns, CutReply}
+use Rattle.agent_run.specs.Outcome.{Answered, AllAnswered, TakenAnswered, Outcome, RanOver}
 use Rattle.agent_run.specs.declared.status.Status.{Status}
 use Rattle.agent_run.specs.declared.status.Status.TheVariants as statuses
-use Rattle.agent_run.specs.declared.frame.Next.{Next}
-use Rattle.agent_run.specs.declared.frame.Next.TheVariants.{Got, Whole, Long, Cut, Spent, ReadFault, NoMemory}
+use Rattle.frames.specs.declared.next.Next.{Next}
+use Rattle.frames.specs.declared.next.Next.TheVariants.{Got, Whole, Long, Cut, Spent, ReadFault, NoMemory}
 use Rattle.agent_run.specs.declared.turn.Turn.{Turn}
 use Rattle.agent_run.specs.declared.turn.Turn.TheVariants as turns
-use Rattle.agent_run.proofs.Pieces.{image_stays, image_both}
-use Rattle.agent_run.proofs.Looks.{length-four_bytes}
+use Rattle.frames.proofs.Public.Sizes.{length-four_bytes}
 
 module _ (anchors : Anchors) where
   -- between two frames: each frame that was taken is answered
-  pub record Looping (limit count : ℕ) (old now : Contents) : Type 0 where
+  pub record Looping (limit count : ℕ) (old now : Stream) : Type 0 where
     pub frames : List Frame
     pub each : All (IsFrame limit) frames
     pub front : old.rest ≡ flat_map frame_bytes frames ++ now.rest
     pub counted : count ≡ length (flat_map frame_bytes frames)
     pub taken : now.taken ≡ old.taken + count
-    pub image : SameImage old now
     pub answered : Answered anchors frames old.sent now.sent
 
-  pub starts : (limit : ℕ) (now : Contents) → Looping limit 0 now now
+  pub starts : (limit : ℕ) (now : Stream) → Looping limit 0 now now
   starts limit now = record {
     frames = [];
     each = All-nil (IsFrame limit);
     front = refl;
     counted = refl;
     taken = omega arith;
-    image = image_stays now;
     answered = record { replies = []; each = tt; sent_is = sym (append-nil now.sent) };
   }
 
@@ -70,7 +67,7 @@ module _ (anchors : Anchors) where
   past xs ys m n is = ap (λ (k : ℕ). take k (xs ++ ys)) is ∙ take-append-add xs ys n
 
   -- one look for a frame, from between two frames on
-  module _ (limit most count : ℕ) (old mid new : Contents) (run : Looping limit count old mid) (count2 : ℕ) (took : TookSome count count2 mid new) where
+  module _ (limit most count : ℕ) (old mid new : Stream) (run : Looping limit count old mid) (count2 : ℕ) (took : TookSome count count2 mid new) (within : count2 ≤ most) where
     abbrev taken_frames : List ℕ
     taken_frames = flat_map frame_bytes run.frames
 
@@ -87,12 +84,15 @@ module _ (anchors : Anchors) where
     still_answered : Answered anchors run.frames old.sent new.sent
     still_answered = moved run.answered took.took.sent
 
-    pub ran : (status : Status) → Outcome anchors limit most status old.rest all_taken old.sent new.sent → Ran anchors limit most status old new
+    taken_within : length all_taken ≤ most
+    taken_within = omega (arith, run.counted, took.counted, within, length-append taken_frames took.bytes)
+
+    pub ran : (status : Status) → Outcome anchors limit most status old.rest all_taken old.sent new.sent → RanOver anchors limit most status old new
     ran status is = record {
       took = all_taken;
       front = all_front;
       taken = omega (arith, took.took.taken, run.taken, run.counted, took.counted, length-append taken_frames took.bytes);
-      image = image_both run.image took.took.image;
+      within = taken_within;
       outcome = is;
     }
 
@@ -132,8 +132,8 @@ module _ (anchors : Anchors) where
         }
 
     -- a head says too much
-    pub long : LongCame limit mid.rest new.rest → count + 5 ≤ count2 → count2 ≤ most → AllAnswered anchors limit most long_end old.rest all_taken old.sent new.sent
-    long came grows within =
+    pub long : LongCame limit mid.rest new.rest → count + 5 ≤ count2 → AllAnswered anchors limit most long_end old.rest all_taken old.sent new.sent
+    long came grows =
         let head = came.head in
         let room = most - count in
         let front = ap (λ (l : List ℕ). take most l) run.front ∙ past taken_frames mid.rest most room (omega (arith, run.counted)) in
@@ -155,8 +155,8 @@ module _ (anchors : Anchors) where
     part_is part = subst (λ (l : List ℕ). IsPart limit l) (sym (same_bytes part.bytes part.front)) part.part
 
     -- no more may be taken
-    pub spent : PartCame limit mid.rest new.rest → most ≤ count2 → count2 ≤ most → AllAnswered anchors limit most spent_end old.rest all_taken old.sent new.sent
-    spent part reached within =
+    pub spent : PartCame limit mid.rest new.rest → most ≤ count2 → AllAnswered anchors limit most spent_end old.rest all_taken old.sent new.sent
+    spent part reached =
         let size : length all_taken ≡ most = omega (arith, length-append taken_frames took.bytes, run.counted, took.counted) in
         let all = ap (λ (l : List ℕ). take most l) all_front ∙ take_at all_taken new.rest most size in
         record {
@@ -181,7 +181,7 @@ module _ (anchors : Anchors) where
     }
 
     -- a frame came whole, and its event led to what stands in the last contents
-    module _ (frame : Frame) (came : Came limit frame mid.rest new.rest) (last : Contents) (only : OnlySent new last) where
+    module _ (frame : Frame) (came : Came limit frame mid.rest new.rest) (last : Stream) (rest : last.rest ≡ new.rest) (taken : last.taken ≡ new.taken) where
       more_frames : all_taken ≡ flat_map frame_bytes (run.frames ++ frame ∷ [])
       more_frames = ap (λ (l : List ℕ). taken_frames ++ l) (same_bytes (frame_bytes frame) came.front) ∙ flat_map_more frame_bytes [] run.frames frame
 
@@ -189,79 +189,81 @@ module _ (anchors : Anchors) where
       more_each = All-push (IsFrame limit) run.frames frame run.each came.within
 
       last_front : old.rest ≡ all_taken ++ last.rest
-      last_front = all_front ∙ ap (λ (l : List ℕ). all_taken ++ l) (sym only.rest)
+      last_front = all_front ∙ ap (λ (l : List ℕ). all_taken ++ l) (sym rest)
 
       last_splits : Splits limit all_taken (run.frames ++ frame ∷ []) []
       last_splits = record { whole = more_frames ∙ sym (append-nil (flat_map frame_bytes (run.frames ++ frame ∷ []))); each = more_each }
 
-      last_ran : (status : Status) → Outcome anchors limit most status old.rest all_taken old.sent last.sent → Ran anchors limit most status old last
+      last_ran : (status : Status) → Outcome anchors limit most status old.rest all_taken old.sent last.sent → RanOver anchors limit most status old last
       last_ran status is = record {
         took = all_taken;
         front = last_front;
-        taken = omega (arith, only.taken, took.took.taken, run.taken, run.counted, took.counted, length-append taken_frames took.bytes);
-        image = image_both (image_both run.image took.took.image) only.image;
+        taken = omega (arith, taken, took.took.taken, run.taken, run.counted, took.counted, length-append taken_frames took.bytes);
+        within = taken_within;
         outcome = is;
       }
 
-      pub goes_on : Turns anchors (event_in frame) new.sent last.sent turns.Sent → Looping limit count2 old last
-      goes_on turn = record {
+      pub goes_on : (reply : Frame) → Answers anchors (event_in frame) reply → last.sent ≡ new.sent ++ frame_bytes reply → Looping limit count2 old last
+      goes_on reply answers sent = record {
         frames = run.frames ++ frame ∷ [];
         each = more_each;
         front = last_front ∙ ap (λ (l : List ℕ). l ++ last.rest) more_frames;
         counted = omega (arith, run.counted, took.counted, length-append taken_frames took.bytes, ap length more_frames);
-        taken = omega (arith, only.taken, took.took.taken, run.taken, took.counted);
-        image = image_both (image_both run.image took.took.image) only.image;
-        answered = answered_push frame turn.0 still_answered turn.1 turn.2;
+        taken = omega (arith, taken, took.took.taken, run.taken, took.counted);
+        answered = answered_push frame reply still_answered answers sent;
       }
 
-      pub send_fault : Turns anchors (event_in frame) new.sent last.sent turns.SendFault → Ran anchors limit most statuses.SendFault old last
-      send_fault turn = last_ran statuses.SendFault (record {
+      pub send_fault : (cut_reply : CutReply anchors (event_in frame) new last) → last.sent ≡ new.sent ++ cut_reply.front → RanOver anchors limit most statuses.SendFault old last
+      send_fault cut_reply sent = last_ran statuses.SendFault (record {
         frames = run.frames;
         last = frame;
         splits = last_splits;
         sent_before = new.sent;
         answered = still_answered;
-        reply = turn.0;
-        replies = turn.1;
-        front = turn.2;
+        reply = cut_reply.reply;
+        replies = cut_reply.answers;
+        front = (cut_reply.front, cut_reply.begins, sent);
       })
 
-      pub no_memory : Turns anchors (event_in frame) new.sent last.sent turns.NoMemory → Ran anchors limit most statuses.NoMemory old last
-      no_memory turn = last_ran statuses.NoMemory (inr (record { frames = run.frames; last = frame; splits = last_splits; answered = moved still_answered turn }))
+      pub no_memory : last.sent ≡ new.sent → RanOver anchors limit most statuses.NoMemory old last
+      no_memory sent = last_ran statuses.NoMemory (inr (record { frames = run.frames; last = frame; splits = last_splits; answered = moved still_answered sent }))
 
   -- what a run leaves that ends without another frame
-  abbrev pub Leaves : ℕ → ℕ → Contents → Contents → Next → Type 0
+  abbrev pub Leaves : ℕ → ℕ → Stream → Stream → Next → Type 0
   Leaves limit most old new (Got kind body) = Unit {0}
-  Leaves limit most old new Whole = Ran anchors limit most statuses.Done old new
-  Leaves limit most old new Long = Ran anchors limit most statuses.LongFrame old new
-  Leaves limit most old new Cut = Ran anchors limit most statuses.CutFrame old new
-  Leaves limit most old new Spent = Ran anchors limit most statuses.InputSpent old new
-  Leaves limit most old new ReadFault = Ran anchors limit most statuses.ReadFault old new
-  Leaves limit most old new NoMemory = Ran anchors limit most statuses.NoMemory old new
+  Leaves limit most old new Whole = RanOver anchors limit most statuses.Done old new
+  Leaves limit most old new Long = RanOver anchors limit most statuses.LongFrame old new
+  Leaves limit most old new Cut = RanOver anchors limit most statuses.CutFrame old new
+  Leaves limit most old new Spent = RanOver anchors limit most statuses.InputSpent old new
+  Leaves limit most old new ReadFault = RanOver anchors limit most statuses.ReadFault old new
+  Leaves limit most old new NoMemory = RanOver anchors limit most statuses.NoMemory old new
 
-  pub left : {limit most count count2 : ℕ} {old mid new : Contents} → Looping limit count old mid → TookSome count count2 mid new → (next : Next) → Grows count count2 next → count2 ≤ most → Nexts limit most count2 mid.rest new.rest next → Leaves limit most old new next
+  pub left : {limit most count count2 : ℕ} {old mid new : Stream} → Looping limit count old mid → TookSome count count2 mid new → (next : Next) → Grows count count2 next → count2 ≤ most → Nexts limit most count2 mid.rest new.rest next → Leaves limit most old new next
   left {limit} {most} {count} {count2} {old} {mid} {new} run took (Got kind body) grows within is = tt
-  left {limit} {most} {count} {count2} {old} {mid} {new} run took Whole grows within is = ran limit most count old mid new run count2 took statuses.Done (whole limit most count old mid new run count2 took is.0 is.1 is.2)
-  left {limit} {most} {count} {count2} {old} {mid} {new} run took Long grows within is = ran limit most count old mid new run count2 took statuses.LongFrame (long limit most count old mid new run count2 took is grows within)
-  left {limit} {most} {count} {count2} {old} {mid} {new} run took Cut grows within is = ran limit most count old mid new run count2 took statuses.CutFrame (cut limit most count old mid new run count2 took is.0 is.1 is.2)
-  left {limit} {most} {count} {count2} {old} {mid} {new} run took Spent grows within is = ran limit most count old mid new run count2 took statuses.InputSpent (spent limit most count old mid new run count2 took is.0 is.1 within)
-  left {limit} {most} {count} {count2} {old} {mid} {new} run took ReadFault grows within is = ran limit most count old mid new run count2 took statuses.ReadFault (part_taken limit most count old mid new run count2 took is)
-  left {limit} {most} {count} {count2} {old} {mid} {new} run took NoMemory grows within is = ran limit most count old mid new run count2 took statuses.NoMemory (inl (part_taken limit most count old mid new run count2 took is))
+  left {limit} {most} {count} {count2} {old} {mid} {new} run took Whole grows within is = ran limit most count old mid new run count2 took within statuses.Done (whole limit most count old mid new run count2 took within is.0 is.1 is.2)
+  left {limit} {most} {count} {count2} {old} {mid} {new} run took Long grows within is = ran limit most count old mid new run count2 took within statuses.LongFrame (long limit most count old mid new run count2 took within is grows)
+  left {limit} {most} {count} {count2} {old} {mid} {new} run took Cut grows within is = ran limit most count old mid new run count2 took within statuses.CutFrame (cut limit most count old mid new run count2 took within is.0 is.1 is.2)
+  left {limit} {most} {count} {count2} {old} {mid} {new} run took Spent grows within is = ran limit most count old mid new run count2 took within statuses.InputSpent (spent limit most count old mid new run count2 took within is.0 is.1)
+  left {limit} {most} {count} {count2} {old} {mid} {new} run took ReadFault grows within is = ran limit most count old mid new run count2 took within statuses.ReadFault (part_taken limit most count old mid new run count2 took within is)
+  left {limit} {most} {count} {count2} {old} {mid} {new} run took NoMemory grows within is = ran limit most count old mid new run count2 took within statuses.NoMemory (inl (part_taken limit most count old mid new run count2 took within is))
 
   -- what a run leaves whose frame got this turn: it goes on, or it ends
-  abbrev pub After : ℕ → ℕ → ℕ → Contents → Contents → Turn → Type 0
+  abbrev pub After : ℕ → ℕ → ℕ → Stream → Stream → Turn → Type 0
   After limit most count old last turns.Sent = Looping limit count old last
-  After limit most count old last turns.SendFault = Ran anchors limit most statuses.SendFault old last
-  After limit most count old last turns.NoMemory = Ran anchors limit most statuses.NoMemory old last
+  After limit most count old last turns.SendFault = RanOver anchors limit most statuses.SendFault old last
+  After limit most count old last turns.NoMemory = RanOver anchors limit most statuses.NoMemory old last
 
-  pub after : (most : ℕ) {limit count count2 : ℕ} {old mid new last : Contents} {frame : Frame} → Looping limit count old mid → TookSome count count2 mid new → Came limit frame mid.rest new.rest → OnlySent new last
-      → (turn : Turn) → Turns anchors (event_in frame) new.sent last.sent turn → After limit most count2 old last turn
-  after most {limit} {count} {count2} {old} {mid} {new} {last} {frame} run took came only turns.Sent is = goes_on limit most count old mid new run count2 took frame came last only is
-  after most {limit} {count} {count2} {old} {mid} {new} {last} {frame} run took came only turns.SendFault is = send_fault limit most count old mid new run count2 took frame came last only is
-  after most {limit} {count} {count2} {old} {mid} {new} {last} {frame} run took came only turns.NoMemory is = no_memory limit most count old mid new run count2 took frame came last only is
+  pub after : (most : ℕ) {limit count count2 : ℕ} {old mid new last : Stream} {frame : Frame} → Looping limit count old mid → TookSome count count2 mid new → count2 ≤ most → Came limit frame mid.rest new.rest
+      → (turn : Turn) → Turns anchors (event_in frame) new last turn → After limit most count2 old last turn
+  after most {limit} {count} {count2} {old} {mid} {new} {last} {frame} run took within came turns.Sent is =
+      goes_on limit most count old mid new run count2 took within frame came last (ap (λ (s : Stream). s.rest) is.2) (ap (λ (s : Stream). s.taken) is.2) is.0 is.1 (ap (λ (s : Stream). s.sent) is.2)
+  after most {limit} {count} {count2} {old} {mid} {new} {last} {frame} run took within came turns.SendFault is =
+      send_fault limit most count old mid new run count2 took within frame came last (ap (λ (s : Stream). s.rest) is.sent) (ap (λ (s : Stream). s.taken) is.sent) is (ap (λ (s : Stream). s.sent) is.sent)
+  after most {limit} {count} {count2} {old} {mid} {new} {last} {frame} run took within came turns.NoMemory is =
+      no_memory limit most count old mid new run count2 took within frame came last (ap (λ (s : Stream). s.rest) is) (ap (λ (s : Stream). s.taken) is) (ap (λ (s : Stream). s.sent) is)
 
 -- the same of an agent that is as at the start
-pub after_by : (most : ℕ) (agent now : Config) → now ≡ agent → {limit count count2 : ℕ} {old mid new last : Contents} {frame : Frame} → Looping agent.anchors limit count old mid → TookSome count count2 mid new
-    → Came limit frame mid.rest new.rest → OnlySent new last → (turn : Turn) → Turns now.anchors (event_in frame) new.sent last.sent turn → After agent.anchors limit most count2 old last turn
-after_by most agent now same {limit} {count} {count2} {old} {mid} {new} {last} {frame} run took came only turn is =
-    after agent.anchors most run took came only turn (subst (λ (c : Config). Turns c.anchors (event_in frame) new.sent last.sent turn) same is)
+pub after_by : (most : ℕ) (agent now : Config) → now ≡ agent → {limit count count2 : ℕ} {old mid new last : Stream} {frame : Frame} → Looping agent.anchors limit count old mid → TookSome count count2 mid new → count2 ≤ most
+    → Came limit frame mid.rest new.rest → (turn : Turn) → Turns now.anchors (event_in frame) new last turn → After agent.anchors limit most count2 old last turn
+after_by most agent now same {limit} {count} {count2} {old} {mid} {new} {last} {frame} run took within came turn is =
+    after agent.anchors most run took within came turn (subst (λ (c : Config). Turns c.anchors (event_in frame) new last turn) same is)

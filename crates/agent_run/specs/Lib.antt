@@ -1,6 +1,3 @@
-pub mod Reading
-pub mod Filling
-pub mod Nexts
 pub mod Turns
 pub mod Statuses
 pub mod Outcome

@@ -1,15 +1,15 @@
 -- How a run ends: what it took, and what it sent.
-use Rattle.std.specs.Prelude.{◌≡◌, ◌+◌, ◌⊎◌, ◌++◌, List, [], ◌∷◌, ℕ, length, take, map}
+use Rattle.std.specs.Prelude.{◌≡◌, ◌+◌, ◌≤◌, ◌⊎◌, ◌++◌, List, [], ◌∷◌, ℕ, length, take, map}
 use Rattle.std.specs.List.{flat_map}
-use Rattle.board_core.specs.Contents.{Contents, Same}
-use Rattle.board_core.specs.Moments.{SendsSome}
+use Rattle.base_types.specs.Causes.{CausedBy, Rose}
+use Rattle.outside_core.specs.Stream.{Stream, SendsSome}
+use Rattle.board_core.specs.Contents.{View, Same, SameDisk}
 use Rattle.trust_anchors.specs.declared.anchors.Anchors.{Anchors}
-use Rattle.agent_core.specs.Frames.{Frame, frame_bytes}
+use Rattle.frames.specs.Frames.{Frame, frame_bytes}
 use Rattle.agent_core.specs.Events.{event_in}
 use Rattle.agent_core.specs.Answers.{Answers, Replies}
-use Rattle.agent_run.specs.Filling.{SameImage}
-use Rattle.agent_run.specs.Reading.{IsPart, Splits, End, Events}
-use Rattle.agent_run.specs.Reading.End.{Whole, Long, Cut, Spent}
+use Rattle.frames.specs.Reading.{IsPart, Splits, End, Events}
+use Rattle.frames.specs.Reading.End.{Whole, Long, Cut, Spent}
 use Rattle.agent_run.specs.declared.status.Status.{Status}
 use Rattle.agent_run.specs.declared.status.Status.TheVariants.{Done, Usage, BadImage, ReadFault, SendFault, DiskFault, CutFrame, LongFrame, NoMemory, InputSpent}
 
@@ -72,15 +72,33 @@ Outcome anchors limit most Usage input took before sent = (took ≡ []) × (sent
 Outcome anchors limit most BadImage input took before sent = (took ≡ []) × (sent ≡ before)
 Outcome anchors limit most DiskFault input took before sent = (took ≡ []) × (sent ≡ before)
 
--- a run of a device with these anchors over a board that tells its contents
-pub record Ran (anchors : Anchors) (limit most : ℕ) (status : Status) (old new : Contents) : Type 0 where
+-- what a run of a device with these anchors did to the input and the output; `most` bytes are taken at most
+pub record RanOver (anchors : Anchors) (limit most : ℕ) (status : Status) (old new : Stream) : Type 0 where
   pub took : List ℕ
   pub front : old.rest ≡ took ++ new.rest
   pub taken : new.taken ≡ old.taken + length took
-  pub image : SameImage old new
+  pub within : length took ≤ most
   pub outcome : Outcome anchors limit most status old.rest took old.sent new.sent
 
+-- a run of a device with these anchors over a board that tells its contents; the disk is left alone
+pub record Ran (anchors : Anchors) (limit most : ℕ) (status : Status) (old new : View) : Type 0 where
+  pub stream : RanOver anchors limit most status old.now.stream new.now.stream
+  pub disk : SameDisk old new
+
 -- a run over an image that is no device's: nothing was taken or sent
-pub record Unmounted (status : Status) (old new : Contents) : Type 0 where
+pub record Unmounted (status : Status) (old new : View) : Type 0 where
   pub fault : (status ≡ BadImage) ⊎ ((status ≡ DiskFault) ⊎ (status ≡ NoMemory))
   pub same : Same old new
+
+-- each count rose where the status blames it, and stands else
+pub record RunCause (status : Status) (old new : View) : Type 0 where
+  pub read : CausedBy (status ≡ ReadFault) old.faults.read new.faults.read
+  pub send : CausedBy (status ≡ SendFault) old.faults.send new.faults.send
+  pub disk : CausedBy (status ≡ DiskFault) old.faults.disk new.faults.disk
+  pub extent : new.extent ≡ old.extent
+
+-- no count rose
+pub record NothingFailed (old new : View) : Type 0 where
+  pub read : Rose old.faults.read new.faults.read → ⊥
+  pub send : Rose old.faults.send new.faults.send → ⊥
+  pub disk : Rose old.faults.disk new.faults.disk → ⊥

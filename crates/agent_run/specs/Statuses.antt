@@ -1,10 +1,11 @@
 -- The statuses of a run: their numbers, and that of each end of an input.
 use Rattle.std.specs.Prelude.{ℕ}
-use Rattle.agent_run.specs.Reading.{End}
-use Rattle.agent_run.specs.Reading.End.{Whole, Long, Cut, Spent}
+use Rattle.frames.specs.Reading.{End}
+use Rattle.frames.specs.Reading.End.{Whole, Long, Cut, Spent}
 use Rattle.agent_run.specs.declared.status.Status.{Status}
 use Rattle.agent_run.specs.declared.status.Status.TheVariants.{Done, Usage, BadImage, ReadFault, SendFault, DiskFault, CutFrame, LongFrame, NoMemory, InputSpent}
 
+-- the number that a program ends with
 abbrev pub number_of : Status → ℕ
 number_of Done = 0
 number_of Usage = 2
@@ -17,6 +18,7 @@ number_of LongFrame = 8
 number_of NoMemory = 9
 number_of InputSpent = 10
 
+-- the status of a run whose input ended so
 abbrev pub status_of : End → Status
 status_of Whole = Done
 status_of Long = LongFrame

@@ -1,28 +1,32 @@
 -- What one event leads to.
-use Rattle.std.specs.Prelude.{◌≡◌, ◌++◌, List, ℕ}
-use Rattle.board_core.specs.Contents.{Contents}
-use Rattle.board_core.specs.Moments.{SendsSome}
+use Rattle.std.specs.Prelude.{◌≡◌, List, ℕ}
+use Rattle.base_types.specs.Causes.{CausedBy}
+use Rattle.outside_core.specs.Stream.{Stream, Begins, sends_on}
+use Rattle.board_core.specs.Contents.{View}
 use Rattle.trust_anchors.specs.declared.anchors.Anchors.{Anchors}
-use Rattle.agent_core.specs.Frames.{Frame, frame_bytes}
+use Rattle.frames.specs.Frames.{Frame, frame_bytes}
 use Rattle.agent_core.specs.Answers.{Answers}
 use Rattle.agent_core.specs.declared.event.Event.{Event}
-use Rattle.agent_run.specs.Filling.{SameImage}
 use Rattle.agent_run.specs.declared.turn.Turn.{Turn}
 use Rattle.agent_run.specs.declared.turn.Turn.TheVariants.{Sent, SendFault, NoMemory}
 
--- the reply went out, or some front of it, or nothing
-abbrev pub Turns : Anchors → Event → List ℕ → List ℕ → Turn → Type 0
-Turns anchors event before sent Sent = (reply : Frame) × Answers anchors event reply × (sent ≡ before ++ frame_bytes reply)
-Turns anchors event before sent SendFault = (reply : Frame) × Answers anchors event reply × SendsSome (frame_bytes reply) before sent
-Turns anchors event before sent NoMemory = sent ≡ before
+-- the reply to the event goes out, or a front of it
+pub record CutReply (anchors : Anchors) (event : Event) (old new : Stream) : Type 0 where
+  pub reply : Frame
+  pub answers : Answers anchors event reply
+  pub front : List ℕ
+  pub begins : Begins front (frame_bytes reply)
+  pub sent : new ≡ sends_on front old
 
--- all but the output is as before
-pub record OnlySent (old new : Contents) : Type 0 where
-  pub taken : new.taken ≡ old.taken
-  pub rest : new.rest ≡ old.rest
-  pub image : SameImage old new
+-- the reply went out, or some front of it, or nothing; nothing was taken
+abbrev pub Turns : Anchors → Event → Stream → Stream → Turn → Type 0
+Turns anchors event old new Sent = (reply : Frame) × Answers anchors event reply × (new ≡ sends_on (frame_bytes reply) old)
+Turns anchors event old new SendFault = CutReply anchors event old new
+Turns anchors event old new NoMemory = new ≡ old
 
-abbrev pub IsSendFault : Turn → Type 0
-IsSendFault Sent = ⊥
-IsSendFault SendFault = Unit {0}
-IsSendFault NoMemory = ⊥
+-- the count of failed sends rose where the send failed, and stands else; no other count changed
+pub record TurnCause (turn : Turn) (old new : View) : Type 0 where
+  pub send : CausedBy (turn ≡ SendFault) old.faults.send new.faults.send
+  pub read : new.faults.read ≡ old.faults.read
+  pub disk : new.faults.disk ≡ old.faults.disk
+  pub extent : new.extent ≡ old.extent

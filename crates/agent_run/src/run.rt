@@ -1,14 +1,13 @@
-ghost use Rattle.std.specs.Prelude.{◌≡◌, ◌≢◌, ◌≤◌, ◌↔◌, List};
-ghost use Rattle.base_types.specs.Causes.{Rose};
-ghost use Rattle.agent_core.specs.Frames.{Frame};
-ghost use Rattle.agent_run.specs.Reading.{End, Events};
+ghost use Rattle.std.specs.Prelude.{◌≡◌, ◌≢◌, ◌↔◌, List};
+ghost use Rattle.frames.specs.Frames.{Frame};
+ghost use Rattle.frames.specs.Reading.{End, Events};
 ghost use Rattle.component_store.specs.declared.config.Config.{Config};
 ghost use Rattle.component_store.specs.Image.{IsImage};
 ghost use Rattle.agent_run.specs.Statuses.{status_of, IsEnding};
-ghost use Rattle.agent_run.specs.Outcome.{Ran, Unmounted};
+ghost use Rattle.agent_run.specs.Outcome.{Ran, Unmounted, RunCause, NothingFailed};
 ghost use Rattle.agent_run.specs.Words.{IsRun};
 
-use crate::frame::{Next, next_frame};
+use crate::looking::look;
 use crate::status::Status;
 use crate::turn::{Turn, answer};
 use crate::words::is_run;
@@ -16,6 +15,7 @@ use agent_core::Agent;
 use base_types::{FRAME_IN_LIMIT, INPUT_LIMIT};
 use board_core::Board;
 use component_store::{MountFault, load_config};
+use frames::{Budget, Next};
 use std::alloc::Global;
 use std::thread::Threads;
 
@@ -28,16 +28,18 @@ use std::thread::Threads;
 ///
 /// - `BadImage` exactly where the image is that of no device and no load failed. Nothing is taken or
 ///   sent.
-/// - `DiskFault` only where the count of failed disk calls rose in this call, while the image was
+/// - `DiskFault` exactly where the count of failed disk calls rose in this call, while the image was
 ///   loaded. Nothing is taken or sent.
 /// - `Done`, `CutFrame`, `LongFrame`, `InputSpent` exactly by the end of the input where nothing
 ///   failed: it ended between two frames, inside a frame, a frame says a length above 2^21 bytes, or
 ///   2^40 bytes were taken and another is needed. Every frame before that end is answered.
-/// - `ReadFault` only where the count of failed reads rose in this call. Every frame taken is answered.
-/// - `SendFault` only where the count of failed sends rose in this call. Every frame taken but the
+/// - `ReadFault` exactly where the count of failed reads rose in this call. Every frame taken is answered.
+/// - `SendFault` exactly where the count of failed sends rose in this call. Every frame taken but the
 ///   last is answered, and a front of the last answer may be sent.
 /// - `NoMemory` before a frame was taken whole, where every frame taken is answered, or in the answer
 ///   to the last frame, of which nothing is sent then.
+///
+/// At most 2^40 bytes are taken. The image is left as it was.
 pub fn run_agent<R: Threads + Sync, B: Board>(
     _rt: &R,
     alloc: Global,
@@ -48,27 +50,20 @@ pub fn run_agent<R: Threads + Sync, B: Board>(
     ensures untouched { result ≡ Status.Usage → board.new ≡ board.old }
 
     // Over the image of a device: what was taken and what was sent, by the status.
-    ensures ran { B.told → IsRun words.now → (v : Config) → IsImage v (B.now board.old).bytes →
-        Ran v.anchors FRAME_IN_LIMIT INPUT_LIMIT result (B.now board.old) (B.now board.new) }
+    ensures ran { B.told → IsRun words.now → (v : Config) → IsImage v (B.view board.old).now.disk.bytes →
+        Ran v.anchors FRAME_IN_LIMIT INPUT_LIMIT result (B.view board.old) (B.view board.new) }
 
     // Over any other image: nothing was taken or sent.
-    ensures unmounted { B.told → IsRun words.now → ((v : Config) → IsImage v (B.now board.old).bytes → ⊥) →
-        Unmounted result (B.now board.old) (B.now board.new) }
-    ensures bad_image { B.told → result ≡ Status.BadImage → (v : Config) → IsImage v (B.now board.old).bytes → ⊥ }
+    ensures unmounted { B.told → IsRun words.now → ((v : Config) → IsImage v (B.view board.old).now.disk.bytes → ⊥) →
+        Unmounted result (B.view board.old) (B.view board.new) }
+    ensures bad_image { B.told → result ≡ Status.BadImage → (v : Config) → IsImage v (B.view board.old).now.disk.bytes → ⊥ }
 
     // Where nothing failed, the end of the input decides.
-    ensures exactly { B.told → IsRun words.now → (v : Config) → IsImage v (B.now board.old).bytes →
-        (Rose (B.faults board.old).disk (B.faults board.new).disk → ⊥) →
-        (Rose (B.faults board.old).read (B.faults board.new).read → ⊥) →
-        (Rose (B.faults board.old).send (B.faults board.new).send → ⊥) →
-        result ≢ Status.NoMemory →
-        (frames : List Frame) (end : End) → Events FRAME_IN_LIMIT INPUT_LIMIT (B.now board.old).rest frames end →
+    ensures exactly { B.told → IsRun words.now → (v : Config) → IsImage v (B.view board.old).now.disk.bytes →
+        NothingFailed (B.view board.old) (B.view board.new) → result ≢ Status.NoMemory →
+        (frames : List Frame) (end : End) → Events FRAME_IN_LIMIT INPUT_LIMIT (B.view board.old).now.stream.rest frames end →
         result ≡ status_of end }
-    ensures read_fault { result ≡ Status.ReadFault → Rose (B.faults board.old).read (B.faults board.new).read }
-    ensures send_fault { result ≡ Status.SendFault → Rose (B.faults board.old).send (B.faults board.new).send }
-    ensures disk_fault { result ≡ Status.DiskFault → Rose (B.faults board.old).disk (B.faults board.new).disk }
-    ensures later { (B.faults board.old).disk ≤ (B.faults board.new).disk }
-    ensures extent { B.extent board.new ≡ B.extent board.old }
+    ensures cause { RunCause result (B.view board.old) (B.view board.new) }
 {
     if !is_run(words) {
         return Status::Usage;
@@ -83,16 +78,13 @@ pub fn run_agent<R: Threads + Sync, B: Board>(
 
 // Answers each frame of the input.
 fn run_frames<B: Board>(alloc: Global, mut agent: Agent, board: &mut B) -> Status
-    ensures ran { B.told → Ran agent.anchors FRAME_IN_LIMIT INPUT_LIMIT result (B.now board.old) (B.now board.new) }
+    ensures ran { B.told → Ran agent.anchors FRAME_IN_LIMIT INPUT_LIMIT result (B.view board.old) (B.view board.new) }
     ensures ends { IsEnding result }
-    ensures read_fault { result ≡ Status.ReadFault → Rose (B.faults board.old).read (B.faults board.new).read }
-    ensures send_fault { result ≡ Status.SendFault → Rose (B.faults board.old).send (B.faults board.new).send }
-    ensures disk { (B.faults board.new).disk ≡ (B.faults board.old).disk }
-    ensures extent { B.extent board.new ≡ B.extent board.old }
+    ensures cause { RunCause result (B.view board.old) (B.view board.new) }
 {
-    let mut taken = 0;
+    let mut budget = Budget::new(INPUT_LIMIT);
     loop {
-        match next_frame(alloc, board, &mut taken) {
+        match look(alloc, board, &mut budget) {
             Next::Got { kind, body } => match answer(alloc, &mut agent, board, kind, body) {
                 Turn::Sent => {}
                 Turn::SendFault => return Status::SendFault,

@@ -1,8 +1,8 @@
 // One event is answered.
-ghost use Rattle.std.specs.Prelude.{◌≡◌, ◌≤◌};
-ghost use Rattle.base_types.specs.Causes.{Rose};
+ghost use Rattle.std.specs.Prelude.{◌≡◌};
 ghost use Rattle.agent_core.specs.Events.{event_by};
-ghost use Rattle.agent_run.specs.Turns.{Turns, OnlySent, IsSendFault};
+ghost use Rattle.board_core.specs.Contents.{SameDisk};
+ghost use Rattle.agent_run.specs.Turns.{Turns, TurnCause};
 
 use agent_core::{Agent, Event, event_of};
 use base_types::Octets;
@@ -20,7 +20,7 @@ pub enum Turn {
     NoMemory,
 }
 
-/// Answers one frame: the reply to its event goes to the output.
+/// Answers one frame: the reply to its event goes to the output. The agent stays as it was.
 pub fn answer<B: Board>(
     alloc: Global,
     agent: &mut Agent,
@@ -28,14 +28,10 @@ pub fn answer<B: Board>(
     kind: u8,
     body: Octets,
 ) -> Turn
-    ensures sent { B.told → Turns agent.old.anchors (event_by kind body) (B.now board.old).sent (B.now board.new).sent result }
+    ensures sent { B.told → Turns agent.old.anchors (event_by kind body) (B.view board.old).now.stream (B.view board.new).now.stream result }
     ensures agent { agent.new ≡ agent.old }
-    ensures only_sent { B.told → OnlySent (B.now board.old) (B.now board.new) }
-    ensures extent { B.extent board.new ≡ B.extent board.old }
-    ensures fault { IsSendFault result → Rose (B.faults board.old).send (B.faults board.new).send }
-    ensures later { (B.faults board.old).send ≤ (B.faults board.new).send }
-    ensures read { (B.faults board.new).read ≡ (B.faults board.old).read }
-    ensures disk { (B.faults board.new).disk ≡ (B.faults board.old).disk }
+    ensures disk { B.told → SameDisk (B.view board.old) (B.view board.new) }
+    ensures cause { TurnCause result (B.view board.old) (B.view board.new) }
 {
     let event = event_of(kind, body);
     answer_event(alloc, agent, board, &event)
@@ -43,14 +39,10 @@ pub fn answer<B: Board>(
 
 // Answers one event: the agent's reply, and then its frame to the output.
 fn answer_event<B: Board>(alloc: Global, agent: &mut Agent, board: &mut B, event: &Event) -> Turn
-    ensures sent { B.told → Turns agent.old.anchors event.now (B.now board.old).sent (B.now board.new).sent result }
+    ensures sent { B.told → Turns agent.old.anchors event.now (B.view board.old).now.stream (B.view board.new).now.stream result }
     ensures agent { agent.new ≡ agent.old }
-    ensures only_sent { B.told → OnlySent (B.now board.old) (B.now board.new) }
-    ensures extent { B.extent board.new ≡ B.extent board.old }
-    ensures fault { IsSendFault result → Rose (B.faults board.old).send (B.faults board.new).send }
-    ensures later { (B.faults board.old).send ≤ (B.faults board.new).send }
-    ensures read { (B.faults board.new).read ≡ (B.faults board.old).read }
-    ensures disk { (B.faults board.new).disk ≡ (B.faults board.old).disk }
+    ensures disk { B.told → SameDisk (B.view board.old) (B.view board.new) }
+    ensures cause { TurnCause result (B.view board.old) (B.view board.new) }
 {
     let Ok(reply) = agent.deliver(alloc, event) else {
         return Turn::NoMemory;

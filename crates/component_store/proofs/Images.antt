@@ -6,7 +6,8 @@ use Rattle.std.proofs.lemmas.List.{length-append, take-append-drop, length-repli
 use Rattle.component_store.specs.declared.config.Config.{Config}
 use Rattle.component_store.specs.declared.config.TheConstants.{CONFIG_LIMIT}
 use Rattle.component_store.specs.Config.{ConfigIs}
-use Rattle.component_store.specs.Image.{IsHead, IsImage, IsNewImage, head_bytes, region_size}
+use Rattle.component_store.specs.Image.{IsHead, IsImage, IsNewImage, head_bytes, journal_region}
+use Rattle.journal_core.specs.Region.{region_size}
 use Rattle.component_store.proofs.Readers.{one_config}
 
 -- the zeros at the end of a head
@@ -70,13 +71,13 @@ module _ (image head : List ℕ) (front : head ≡ take 65536 image) where
     whole : (v : Config) (is : IsImage v image) → length image ≡ 65536 + length is.region
     whole v is = ap length is.spelled ∙ length-append (head_bytes is.config) is.region ∙ ap (λ (n : ℕ). n + length is.region) (head_size is.config is.is.short)
 
-    pub without_room : (w : Config) → ConfigIs w bytes → length image < 65536 + region_size w.quota → (v : Config) → IsImage v image → ⊥
+    pub without_room : (w : Config) → ConfigIs w bytes → length image < 65536 + region_size (journal_region w.quota) → (v : Config) → IsImage v image → ⊥
     without_room w config small v is =
         let same : v ≡ w = one_config bytes v w (config_at v is) config in
-        let room : region_size w.quota ≤ length is.region = subst (λ (c : Config). region_size c.quota ≤ length is.region) same is.room in
+        let room : region_size (journal_region w.quota) ≤ length is.region = subst (λ (c : Config). region_size (journal_region c.quota) ≤ length is.region) same is.room in
         omega (arith, small, room, whole v is)
 
-    pub with_room : (w : Config) → ConfigIs w bytes → 65536 + region_size w.quota ≤ length image → IsImage w image
+    pub with_room : (w : Config) → ConfigIs w bytes → 65536 + region_size (journal_region w.quota) ≤ length image → IsImage w image
     with_room w config enough =
         let split : image ≡ head_bytes bytes ++ drop 65536 image = sym (take-append-drop 65536 image) ∙ ap (λ (l : List ℕ). l ++ drop 65536 image) (sym front ∙ head_is.spelled) in
         record {
@@ -92,7 +93,7 @@ pub new_image : (v : Config) (image : List ℕ) → IsNewImage v image → IsIma
 new_image v image new = record {
   config = new.config;
   is = new.is;
-  region = replicate {A = ℕ} (region_size v.quota) 0;
+  region = replicate {A = ℕ} (region_size (journal_region v.quota)) 0;
   spelled = new.spelled;
-  room = omega (arith, length-replicate {A = ℕ} (region_size v.quota) 0);
+  room = omega (arith, length-replicate {A = ℕ} (region_size (journal_region v.quota)) 0);
 }

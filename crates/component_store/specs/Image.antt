@@ -1,6 +1,8 @@
 -- The image of a device that was given a configuration.
 use Rattle.std.specs.Prelude.{◌≡◌, ◌≤◌, ◌+◌, ◌*◌, ◌-◌, ◌++◌, ℕ, List, codes, length, replicate}
 use Rattle.std.specs.Int.{to_be_bytes, w32}
+use Rattle.journal_core.specs.declared.region.Region.{Region}
+use Rattle.journal_core.specs.Region.{region_size}
 use Rattle.component_store.specs.declared.config.Config.{Config}
 use Rattle.component_store.specs.declared.config.TheConstants.{CONFIG_LIMIT}
 use Rattle.component_store.specs.declared.head.TheConstants.{LAYOUT}
@@ -15,9 +17,9 @@ pub record IsHead (config : List ℕ) (head : List ℕ) : Type 0 where
   pub short : length config ≤ CONFIG_LIMIT
   pub spelled : head ≡ head_bytes config
 
--- how many bytes the journal takes behind the head: a selector of 16, and two halves
-abbrev pub region_size : ℕ → ℕ
-region_size quota = 16 + 2 * (2 * quota + 65536)
+-- where the journal lies: behind the head
+abbrev pub journal_region : ℕ → Region
+journal_region quota = record { at = 65536; half = 2 * quota + 65536 }
 
 -- the image has the head of this configuration, and room for its journal
 pub record IsImage (v : Config) (image : List ℕ) : Type 0 where
@@ -25,13 +27,13 @@ pub record IsImage (v : Config) (image : List ℕ) : Type 0 where
   pub is : ConfigIs v config
   pub region : List ℕ
   pub spelled : image ≡ head_bytes config ++ region
-  pub room : region_size v.quota ≤ length region
+  pub room : region_size (journal_region v.quota) ≤ length region
 
 -- the image is such a head and a journal of zeros, which is the empty list, and nothing more
 pub record IsNewImage (v : Config) (image : List ℕ) : Type 0 where
   pub config : List ℕ
   pub is : ConfigIs v config
-  pub spelled : image ≡ head_bytes config ++ replicate (region_size v.quota) 0
+  pub spelled : image ≡ head_bytes config ++ replicate (region_size (journal_region v.quota)) 0
 
 -- an image is that of one configuration
 abbrev pub OneImage : Type 0

@@ -10,7 +10,7 @@ pub enum ConfigFault {
     #[error("BadConfig")]
     BadConfig,
     /// No memory was left.
-    #[error("no memory is left")]
+    #[error("NoMemory")]
     NoMemory,
 }
 
@@ -34,7 +34,7 @@ pub enum MountFault {
     #[error("DiskFault")]
     DiskFault,
     /// No memory was left.
-    #[error("no memory is left")]
+    #[error("NoMemory")]
     NoMemory,
 }
 

@@ -1,25 +1,17 @@
 // The configuration of the device whose image a board holds.
 ghost use Rattle.std.specs.Prelude.{◌≡◌, ◌≢◌, ◌≤◌, ℕ, List, take, length, IfOk, Err};
-ghost use Rattle.base_types.specs.Causes.{Rose};
 ghost use Rattle.board_core.specs.Contents.{Same};
+ghost use Rattle.board_core.specs.Calls.{DiskCausedBy};
 ghost use Rattle.board_core.specs.Moments.{Passes, NoMoment};
-ghost use Rattle.board_core.specs.Contents.{DiskAlone};
 ghost use Rattle.component_store.specs.Loading.{Loaded};
 
 use crate::config::Config;
 use crate::fault::{ConfigFault, MountFault};
 use crate::head::{HEAD_SIZE, config_in};
-use crate::image::region_of;
-use base_types::OrMemory;
+use crate::image::journal_of;
+use base_types::zeros;
 use board_core::Board;
 use std::alloc::Global;
-
-// So many bytes of any value.
-fn zeros(alloc: Global, size: usize) -> OrMemory<Vec<u8>>
-    ensures { IfOk result (λ v. length v.items ≡ size) }
-{
-    Ok(vec![in alloc; 0u8; size]?)
-}
 
 // The configuration in the head of an image of this size.
 fn config_of(alloc: Global, head: &[u8], size: u64) -> Result<Config, MountFault>
@@ -36,7 +28,7 @@ fn config_of(alloc: Global, head: &[u8], size: u64) -> Result<Config, MountFault
         Err(ConfigFault::NoMemory) => return Err(MountFault::NoMemory),
         Err(ConfigFault::BadConfig) => return Err(MountFault::BadImage),
     };
-    if size - (HEAD_SIZE as u64) < region_of(config.quota) {
+    if size - (HEAD_SIZE as u64) < journal_of(config.quota).size() {
         return Err(MountFault::BadImage);
     }
     Ok(config)
@@ -44,15 +36,13 @@ fn config_of(alloc: Global, head: &[u8], size: u64) -> Result<Config, MountFault
 
 // So many bytes of the image, from its front.
 fn load_front<B: Board>(alloc: Global, board: &mut B, size: usize) -> Result<Vec<u8>, MountFault>
-    requires { size ≤ B.extent board.old }
-    ensures front { B.told → IfOk result (λ front. front.items ≡ take size (B.now board.old).bytes) }
+    requires { size ≤ (B.view board.old).extent }
+    ensures front { B.told → IfOk result (λ front. front.items ≡ take size (B.view board.old).now.disk.bytes) }
     ensures size { IfOk result (λ front. length front.items ≡ size) }
-    ensures disk_fault { result ≡ Err MountFault.DiskFault → Rose (B.faults board.old).disk (B.faults board.new).disk }
     ensures other { result ≢ Err MountFault.BadImage }
-    ensures counts { DiskAlone (B.faults board.old) (B.faults board.new) }
-    ensures extent { B.extent board.new ≡ B.extent board.old }
-    ensures same { B.told → Same (B.now board.old) (B.now board.new) }
-    ensures moments { B.told → Passes (B.now board.old) (B.now board.new) (B.left board.old) (B.left board.new) NoMoment }
+    ensures cause { DiskCausedBy (result ≡ Err MountFault.DiskFault) (B.view board.old) (B.view board.new) }
+    ensures same { B.told → Same (B.view board.old) (B.view board.new) }
+    ensures moments { B.told → Passes (B.view board.old) (B.view board.new) NoMoment }
 {
     let mut front = zeros(alloc, size)?;
     board.load(0, &mut front)?;
@@ -62,15 +52,13 @@ fn load_front<B: Board>(alloc: Global, board: &mut B, size: usize) -> Result<Vec
 /// The configuration of the device whose image the board holds. It loads, and changes nothing.
 ///
 /// `BadImage` exactly where the image has no head of a configuration, or is smaller than the head and
-/// the journal that this configuration asks for, and no load failed. `DiskFault` only where the count of
+/// the journal that this configuration asks for, and no load failed. `DiskFault` exactly where the count of
 /// failed disk calls rose in this call. `NoMemory` may come for any image.
 pub fn load_config<B: Board>(alloc: Global, board: &mut B) -> Result<Config, MountFault>
-    ensures loaded { B.told → Loaded (B.now board.old).bytes result }
-    ensures disk_fault { result ≡ Err MountFault.DiskFault → Rose (B.faults board.old).disk (B.faults board.new).disk }
-    ensures counts { DiskAlone (B.faults board.old) (B.faults board.new) }
-    ensures extent { B.extent board.new ≡ B.extent board.old }
-    ensures same { B.told → Same (B.now board.old) (B.now board.new) }
-    ensures moments { B.told → Passes (B.now board.old) (B.now board.new) (B.left board.old) (B.left board.new) NoMoment }
+    ensures loaded { B.told → Loaded (B.view board.old).now.disk.bytes result }
+    ensures cause { DiskCausedBy (result ≡ Err MountFault.DiskFault) (B.view board.old) (B.view board.new) }
+    ensures same { B.told → Same (B.view board.old) (B.view board.new) }
+    ensures moments { B.told → Passes (B.view board.old) (B.view board.new) NoMoment }
 {
     let size = board.size();
     if size < HEAD_SIZE as u64 {

@@ -1,3 +1,2 @@
 pub mod Public
 pub mod Looks
-pub mod OneReading

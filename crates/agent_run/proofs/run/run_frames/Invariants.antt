@@ -1,18 +1,19 @@
 use Rattle.std.proofs.Common.{◌≡◌, ◌-◌, ◌≤◌}
 use Rattle.base_types.specs.declared.limits.TheConstants.{FRAME_IN_LIMIT, INPUT_LIMIT}
+use Rattle.board_core.specs.Contents.{SameDisk}
+use Rattle.agent_run.proofs.Caused.{Steady}
 use Rattle.agent_run.proofs.Looping.{Looping}
 use Rattle.agent_run.proofs.run.run_frames.Given as goal
 
 abbrev pub invariant-loop-kind : goal.invariant-loop-kind
 invariant-loop-kind g l = record {
   agent : l.agent ≡ l.initial.agent;
-  bounded : l.taken ≤ INPUT_LIMIT;
-  run : g.B.Board.told → Looping l.initial.agent.anchors FRAME_IN_LIMIT l.taken (g.B.Board.now l.initial.board) (g.B.Board.now l.board);
-  read : (g.B.Board.faults l.initial.board).read ≤ (g.B.Board.faults l.board).read;
-  send : (g.B.Board.faults l.initial.board).send ≤ (g.B.Board.faults l.board).send;
-  disk : (g.B.Board.faults l.board).disk ≡ (g.B.Board.faults l.initial.board).disk;
-  extent : g.B.Board.extent l.board ≡ g.B.Board.extent l.initial.board;
+  most : l.budget.most ≡ INPUT_LIMIT;
+  bounded : l.budget.taken ≤ INPUT_LIMIT;
+  run : g.B.Source.told → Looping l.initial.agent.anchors FRAME_IN_LIMIT l.budget.taken (g.B.Board.view l.initial.board).now.stream (g.B.Board.view l.board).now.stream;
+  disk : g.B.Source.told → SameDisk (g.B.Board.view l.initial.board) (g.B.Board.view l.board);
+  steady : Steady (g.B.Board.view l.initial.board) (g.B.Board.view l.board);
 }
 
 abbrev pub decreases-loop-kind : goal.decreases-loop-kind
-decreases-loop-kind g l = INPUT_LIMIT - l.taken
+decreases-loop-kind g l = INPUT_LIMIT - l.budget.taken

@@ -1,4 +1,4 @@
-use Rattle.frames.proofs.OneReading.{one_reading}
+use Rattle.frames.proofs.Public.OneReading.{one_reading}
 use Rattle.frames.proofs.laws.one_reading.Goals as goal
 
 pub returns : goal.returns

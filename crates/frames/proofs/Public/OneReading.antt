@@ -11,7 +11,7 @@ use Rattle.std.specs.List.{flat_map, AllByRecursion}
 use Rattle.frames.specs.Frames.{Frame, frame_bytes, four_bytes}
 use Rattle.frames.specs.Reading.{IsFrame, Head, IsLong, IsCut, IsPart, End, EndsAs, Events, OneReading}
 use Rattle.frames.specs.Reading.End.{Whole, Long, Cut, Spent}
-use Rattle.frames.proofs.Looks.{length-four_bytes}
+use Rattle.frames.proofs.Public.Sizes.{length-four_bytes}
 
 four_bytes_cancel : (m n : ℕ) → m < 2 ^ 32 → n < 2 ^ 32 → four_bytes m ≡ four_bytes n → m ≡ n
 unfolding four_bytes
@@ -155,7 +155,7 @@ module _ (limit : ℕ) (limit_fits : limit < 2 ^ 32) where
   one_end most total rest Spent Spent is too = refl
 
   -- one reading at most
-  at_most_one : (most : ℕ) (input : List ℕ) (frames others : List Frame) (end other : End) → Events limit most input frames end → Events limit most input others other → (frames ≡ others) × (end ≡ other)
+  pub at_most_one : (most : ℕ) (input : List ℕ) (frames others : List Frame) (end other : End) → Events limit most input frames end → Events limit most input others other → (frames ≡ others) × (end ≡ other)
   at_most_one most input frames others end other is too =
       let both = same_frames frames others is.rest too.rest (recursion_from_All (IsFrame limit) frames is.splits.each) (recursion_from_All (IsFrame limit) others too.splits.each)
       (end_no_frame most (length input) is.rest end is.ends) (end_no_frame most (length input) too.rest other too.ends) (sym is.splits.whole ∙ too.splits.whole) in
