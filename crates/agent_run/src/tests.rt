@@ -1,6 +1,6 @@
 mod vectors;
 
-use crate::{Status, one_reading, run_agent};
+use crate::{Status, run_agent};
 use base_types::{FRAME_IN_LIMIT, List, Octets};
 use board_core::MemoryBoard;
 use component_store::{Config, image_of};
@@ -51,7 +51,6 @@ fn run<R: Threads + Sync + AllocGlobal>(
 
 #[test]
 fn inputs_have_their_output_and_status(rt: HostRuntime) -> Result<(), Fail> {
-    one_reading();
     let alloc = rt.alloc();
     let question = question(alloc)?;
     let question = question.as_slice();
