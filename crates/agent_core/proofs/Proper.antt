@@ -7,7 +7,7 @@ use Rattle.cbor_core.specs.declared.item.Item.TheVariants as i
 use Rattle.cbor_core.specs.Spelling.{IsProper}
 use Rattle.cbor_core.proofs.Public.KeyOrder.{layers}
 use Rattle.cbor_fields.specs.Written.{labelled, put_if}
-use Rattle.cbor_fields.proofs.Placed.{put_two}
+use Rattle.cbor_fields.proofs.Public.Placed.{put_two}
 use Rattle.teep_messages.specs.Options.{IsSized, no_options}
 use Rattle.teep_messages.specs.Proper.{AreProperOptions, IsProperMessage}
 use Rattle.teep_messages.specs.Written.{option_pairs, written}

@@ -1,9 +1,4 @@
-pub mod Each
-pub mod Ids
-pub mod Spelled
-pub mod Order
-pub mod Puts
-pub mod Fields
-pub mod Forms
-pub mod Placed
-pub mod Values
+pub mod Public
+mod Each
+mod Ids
+mod Order

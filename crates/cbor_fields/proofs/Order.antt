@@ -13,31 +13,9 @@ use Rattle.cbor_heads.specs.Head.{head}
 use Rattle.cbor_core.specs.Spelling.{spelling, spellings, pair_spellings, bytes_below, KeysAscend}
 use Rattle.cbor_core.specs.Views.{labelled_by}
 use Rattle.cbor_core.proofs.Public.Spell.{spelling_Unsigned, spelling_Negative, spelling_Bytes, spelling_Text, spelling_Array, spelling_Map, spelling_Tag, spelling_Truth, spelling_Null}
-use Rattle.cbor_heads.proofs.Public.Heads.{head_short, head_8, head_16, head_32, head_64}
+use Rattle.cbor_heads.proofs.Public.Heads.{head_short}
+use Rattle.cbor_heads.proofs.Public.Fronts.{head_front}
 use Rattle.cbor_fields.specs.Written.{is_below_by}
-
--- the first byte of a head: the major type, and with it the argument where that is short
-record Front (major n : ℕ) : Type 0 where
-  first : ℕ
-  more : List ℕ
-  is : head major n ≡ first ∷ more
-  low : 32 * major ≤ first
-  short : first < 32 * major + 24 → first ≡ 32 * major + n
-
-head_front : (major n : ℕ) → Front major n
-head_front major n = elim (cases_lt n 24) [
-  | inl short ↦ record { first = 32 * major + n; more = []; is = head_short major n short; low = omega arith; short = λ lt. refl }
-  | inr long ↦ elim (cases_lt n 256) [
-    | inl one ↦ record { first = 32 * major + 24; more = to_be_bytes w8 n; is = head_8 major n long one; low = omega arith; short = λ lt. omega arith }
-    | inr long1 ↦ elim (cases_lt n 65536) [
-      | inl two ↦ record { first = 32 * major + 25; more = to_be_bytes w16 n; is = head_16 major n long1 two; low = omega arith; short = λ lt. omega arith }
-      | inr long2 ↦ elim (cases_lt n 4294967296) [
-        | inl four ↦ record { first = 32 * major + 26; more = to_be_bytes w32 n; is = head_32 major n long2 four; low = omega arith; short = λ lt. omega arith }
-        | inr long4 ↦ record { first = 32 * major + 27; more = to_be_bytes w64 n; is = head_64 major n long4; low = omega arith; short = λ lt. omega arith }
-      ]
-    ]
-  ]
-]
 
 -- bytes below one byte begin with a smaller one
 not_above : (first label : ℕ) (more : List ℕ) (b c : Bool) → nat_lt first label ≡ b → (first == label) ≡ c → bytes_below (first ∷ more) (label ∷ []) ≡ true → nat_lt first label ≡ true

@@ -1,5 +1,5 @@
 -- What typed fields are: nothing of an item is lost.
-use Rattle.std.specs.Prelude.{ℕ, ◌≡◌, ◌<◌, false, List, [], ◌∷◌, Some}
+use Rattle.std.specs.Prelude.{ℕ, ◌≡◌, ◌<◌, false, List, [], ◌∷◌}
 use Rattle.cbor_core.specs.declared.item.Item.TheOpen.{Item-F}
 use Rattle.cbor_core.specs.declared.item.Item.TheVariants as i
 use Rattle.cbor_core.specs.declared.item.Pair.{Pair}
@@ -14,7 +14,6 @@ pub record FormsDetermine : Type 0 where
   pub bytes : Determines bytes_of (λ b. i.Bytes b)
   pub text : Determines text_of (λ t. i.Text t)
   pub truth : Determines truth_of (λ b. i.Truth b)
-  pub anything : Determines (λ x. Some x) (λ x. x)
   pub id : Determines id_of decoded
 
 -- The pairs that have none of some labels are those that have not one more label either, with its value put back.

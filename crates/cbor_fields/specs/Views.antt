@@ -1,11 +1,11 @@
 -- What an item stands for in a typed form: a value, or none where it has another shape.
-use Rattle.std.specs.Prelude.{◌==◌, ℕ, Bool, true, false, List, [], ◌∷◌, Option, Some, None, option_map, option_and_then, if◌then◌else◌, not}
+use Rattle.std.specs.Prelude.{◌==◌, ◌≡◌, ℕ, Bool, true, false, List, [], ◌∷◌, Option, Some, None, option_map, option_and_then, if◌then◌else◌, not}
 use Rattle.std.specs.List.{filter}
 use Rattle.cbor_core.specs.declared.item.Item.{Item, out-Item}
 use Rattle.cbor_core.specs.declared.item.Item.TheOpen.{Item-F}
 use Rattle.cbor_core.specs.declared.item.Pair.{Pair}
 use Rattle.cbor_core.specs.Views.{array_of, field, labelled_by}
-use Rattle.cbor_core.specs.Spelling.{spelling}
+use Rattle.cbor_core.specs.Spelling.{spelling, Spells}
 
 -- ---- lists
 
@@ -39,6 +39,14 @@ is_id x = is_id_by (out-Item x)
 -- the encoding of an identifier
 abbrev pub id_of : Item → Option (List ℕ)
 id_of x = if is_id x then Some (spelling x) else None
+
+-- the bytes spell an item, which is an identifier
+abbrev pub SpellsId : Item → List ℕ → Type 0
+SpellsId x bytes = Spells x bytes × (is_id x ≡ true)
+
+-- the bytes are the encoding of an identifier
+abbrev pub IsIdentifier : List ℕ → Type 0
+IsIdentifier bytes = (x : Item) × SpellsId x bytes
 
 -- ---- fields of a map
 

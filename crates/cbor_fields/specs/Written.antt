@@ -5,6 +5,7 @@ use Rattle.cbor_core.specs.declared.item.Item.{Item, out-Item}
 use Rattle.cbor_core.specs.declared.item.Item.TheOpen.{Item-F}
 use Rattle.cbor_core.specs.declared.item.Item.TheVariants as i
 use Rattle.cbor_core.specs.declared.item.Pair.{Pair}
+use Rattle.cbor_heads.specs.declared.fault.Fault.{Fault}
 use Rattle.cbor_heads.specs.Place.{start}
 use Rattle.cbor_heads.specs.Reading.{Outcome}
 use Rattle.cbor_core.specs.Reading.{item_at}
@@ -21,11 +22,12 @@ Determines {V} view item = (x : Item) (value : V) → IsSpelled x → view x ≡
 
 -- ---- identifiers
 
+-- the item, where nothing stands behind it
 abbrev pub whole : Item → List ℕ → Item
 whole x [] = x
 whole x (byte ∷ bytes) = i.Null
 
-abbrev pub decoded_by : Outcome Item → Item
+abbrev pub decoded_by : Outcome Fault Item → Item
 decoded_by (Ok x) = whole x.0 x.1.rest
 decoded_by (Err f) = i.Null
 

@@ -1,7 +1,7 @@
 ghost use Rattle.std.specs.Prelude.{◌≡◌, IfOk};
 ghost use Rattle.std.specs.Option.{option_copied};
 ghost use Rattle.cbor_core.specs.declared.item.Item.{out-Item};
-ghost use Rattle.cbor_fields.specs.Reads.{Reads};
+ghost use Rattle.cbor_fields.specs.Reads.{ReadsForm};
 ghost use Rattle.cbor_fields.specs.Views.{field_of, needed_of, keys_among, is_among, others, negative_labelled_by};
 ghost use Rattle.cbor_fields.specs.Views as Views;
 
@@ -18,7 +18,7 @@ pub fn read_field<V: Drop, F: Form<V>>(
     pairs: &[Pair],
     label: u64,
 ) -> Result<Option<V>, FormFault>
-    ensures { Reads (field_of F.view label pairs.now) result }
+    ensures { ReadsForm (field_of F.view label pairs.now) result }
 {
     match field(pairs, label) {
         Some(item) => Ok(Some(F::read(alloc, item)?)),
@@ -33,7 +33,7 @@ pub fn read_needed<V: Drop, F: Form<V>>(
     pairs: &[Pair],
     label: u64,
 ) -> Result<V, FormFault>
-    ensures { Reads (needed_of F.view label pairs.now) result }
+    ensures { ReadsForm (needed_of F.view label pairs.now) result }
 {
     match field(pairs, label) {
         Some(item) => F::read(alloc, item),

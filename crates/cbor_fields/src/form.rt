@@ -1,6 +1,6 @@
 ghost use Rattle.std.specs.Prelude.{◌≡◌, Option, IfOk};
 ghost use Rattle.cbor_core.specs.declared.item.Item.{Item};
-ghost use Rattle.cbor_fields.specs.Reads.{Reads};
+ghost use Rattle.cbor_fields.specs.Reads.{ReadsForm};
 
 use crate::fault::FormFault;
 use base_types::OrMemory;
@@ -15,7 +15,7 @@ pub trait Form<V> {
 
     /// The value of an item. `Shape` exactly where it has another shape.
     fn read(alloc: Global, item: &Item) -> Result<V, FormFault>
-        ensures { Reads (view item.now) result };
+        ensures { ReadsForm (view item.now) result };
 
     /// The item that a value is written as. By `forms_determine` it is the one that has the value, if
     /// bytes spell one. Refused for want of memory alone.

@@ -1,7 +1,7 @@
-//! Typed fields of CBOR items: the pieces that every typed codec over `cbor_core` is made of.
+//! Typed fields of CBOR items: pieces that typed codecs over `cbor_core` are made of.
 //!
-//! A `Form` is a shape that an item may have, with the value that it stands for then. Forms are read
-//! alone, as the members of an array (`ListOf`), and as the fields of a map by their labels.
+//! A `Form` is a shape that an item may have, with the value that it stands for then. A form is read
+//! and written alone, for each member of an array (`ListOf`), and for a field of a map by its label.
 #![tactic(auto)]
 
 mod fault;
@@ -24,4 +24,4 @@ pub use laws::{fields_put_back, forms_determine, lists_determine};
 pub use list::ListOf;
 pub use parts::{into_bytes, into_map};
 pub use put::{put_field, put_needed};
-pub use simple::{Anything, ByteString, TextString, Truth, Unsigned};
+pub use simple::{ByteString, TextString, Truth, Unsigned};

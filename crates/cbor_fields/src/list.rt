@@ -1,6 +1,6 @@
 ghost use Rattle.std.specs.Prelude.{◌≡◌, map, IfOk};
 ghost use Rattle.cbor_core.specs.declared.item.Item.TheVariants as i;
-ghost use Rattle.cbor_fields.specs.Reads.{Reads};
+ghost use Rattle.cbor_fields.specs.Reads.{ReadsForm};
 ghost use Rattle.cbor_fields.specs.Views.{each_of, list_of};
 
 use crate::fault::FormFault;
@@ -34,7 +34,7 @@ impl<V: Drop, F: Form<V>> Form<List<V>> for ListOf<F> {
 
 /// The values of items, in their order. `Shape` exactly where one has another shape.
 fn read_each<V: Drop, F: Form<V>>(alloc: Global, members: &[Item]) -> Result<List<V>, FormFault>
-    ensures { Reads (each_of F.view members.now) result }
+    ensures { ReadsForm (each_of F.view members.now) result }
 {
     let mut values = List::new(alloc);
     for member in members {

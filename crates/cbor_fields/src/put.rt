@@ -9,7 +9,8 @@ use cbor_core::{Item, Pair};
 use std::alloc::Global;
 
 /// Puts the value of a field into a map's pairs, behind the first pairs whose keys are numbers below
-/// the label. The place is the one that `fields_put_back` speaks of. Refused for want of memory alone.
+/// the label. Where the keys ascend, none is the label, and the label is below 24, the keys ascend
+/// then too: `fields_put_back` says so of a field that was left out. Refused for want of memory alone.
 pub fn put_needed<V: Drop, F: Form<V>>(
     alloc: Global,
     pairs: List<Pair>,

@@ -1,4 +1,3 @@
-ghost use Rattle.std.specs.Prelude.{Some};
 ghost use Rattle.cbor_core.specs.Views.{unsigned_of, bytes_of, text_of, truth_of};
 ghost use Rattle.cbor_core.specs.declared.item.Item.TheVariants as i;
 
@@ -79,22 +78,5 @@ impl Form<bool> for Truth {
 
     fn write(_alloc: Global, value: &bool) -> OrMemory<Item> {
         Ok(Item::Truth(*value))
-    }
-}
-
-/// Any item, as itself.
-pub struct Anything;
-
-impl Form<Item> for Anything {
-    ghost view = { Some };
-
-    ghost written = { λ x. x };
-
-    fn read(alloc: Global, item: &Item) -> Result<Item, FormFault> {
-        Ok(item.try_clone(alloc)?)
-    }
-
-    fn write(alloc: Global, value: &Item) -> OrMemory<Item> {
-        value.try_clone(alloc)
     }
 }

@@ -7,8 +7,8 @@ use Rattle.cbor_core.specs.declared.item.Pair.{Pair}
 use Rattle.cbor_core.specs.Views.{unsigned_of, truth_of, array_of, map_of}
 use Rattle.cbor_fields.specs.Views.{id_of, list_of, needed_of, field_of, keys_among, is_other}
 use Rattle.cbor_fields.specs.Written.{IsSpelled}
-use Rattle.cbor_fields.proofs.Spelled.{ArePairs, pairs_spelled}
-use Rattle.cbor_fields.proofs.Values.{list_gives, field_gives, needed_gives, id_gives, others_are}
+use Rattle.cbor_fields.proofs.Public.Spelled.{ArePairs, pairs_spelled}
+use Rattle.cbor_fields.proofs.Public.Values.{list_gives, field_gives, needed_gives, id_gives, others_are}
 use Rattle.teep_messages.specs.declared.reported.Reported.{Reported}
 use Rattle.teep_messages.specs.declared.requested.Requested.{Requested}
 use Rattle.teep_messages.specs.declared.options.Options.{Options}

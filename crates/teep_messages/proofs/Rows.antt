@@ -7,10 +7,10 @@ use Rattle.cbor_core.specs.declared.item.Item.TheVariants as i
 use Rattle.cbor_core.specs.Views.{unsigned_of, truth_of, array_of, map_of}
 use Rattle.cbor_fields.specs.Views.{id_of, needed_of, field_of, keys_among, others}
 use Rattle.cbor_fields.specs.Written.{IsSpelled, Determines, decoded, put, put_if}
-use Rattle.cbor_fields.proofs.Spelled.{ArePairs, pairs_spelled}
+use Rattle.cbor_fields.proofs.Public.Spelled.{ArePairs, pairs_spelled}
 use Rattle.cbor_core.proofs.Public.Views.{unsigned_is, array_is, map_is}
-use Rattle.cbor_fields.proofs.Forms.{id_determines, unsigned_determines, truth_determines, list_determines}
-use Rattle.cbor_fields.proofs.Fields.{field_back, needed_back, no_others, all_others}
+use Rattle.cbor_fields.proofs.Public.Forms.{id_determines, unsigned_determines, truth_determines, list_determines}
+use Rattle.cbor_fields.proofs.Public.Fields.{field_back, needed_back, no_others, all_others}
 use Rattle.teep_messages.specs.declared.reported.Reported.{Reported}
 use Rattle.teep_messages.specs.declared.requested.Requested.{Requested}
 use Rattle.teep_messages.specs.declared.operation.Operation.{Operation}

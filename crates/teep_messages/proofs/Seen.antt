@@ -11,8 +11,8 @@ use Rattle.cbor_core.specs.declared.item.Pair.{Pair}
 use Rattle.cbor_core.specs.Views.{unsigned_of, bytes_of, text_of, truth_of, field}
 use Rattle.cbor_fields.specs.Views.{id_of, list_of, field_of, needed_of, optional, behind_key, keys_among, is_among, others}
 use Rattle.cbor_fields.specs.Written.{decoded, labelled, put, put_if}
-use Rattle.cbor_fields.proofs.Puts.{put_end}
-use Rattle.cbor_fields.proofs.Placed.{put_two, put_three, Row, row, put_rows, under, put_none, put_row, rows_found, rows_others, none_under, others_all, option_seen, list_seen, id_seen}
+use Rattle.cbor_fields.proofs.Public.Puts.{put_end}
+use Rattle.cbor_fields.proofs.Public.Placed.{put_two, put_three, Row, row, put_rows, under, put_none, put_row, rows_found, rows_others, none_under, others_all, option_seen, list_seen, id_seen}
 use Rattle.teep_messages.specs.declared.reported.Reported.{Reported}
 use Rattle.teep_messages.specs.declared.requested.Requested.{Requested}
 use Rattle.teep_messages.specs.declared.operation.Operation.{Operation}

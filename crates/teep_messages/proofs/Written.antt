@@ -10,11 +10,11 @@ use Rattle.cbor_core.specs.Spelling.{spelling, Spells, IsProper, HasRanges}
 use Rattle.cbor_core.specs.Views.{unsigned_of, bytes_of, text_of}
 use Rattle.cbor_fields.specs.Views.{id_of, list_of, field_of, others}
 use Rattle.cbor_fields.specs.Written.{IsSpelled, Determines, decoded, put_if}
-use Rattle.cbor_fields.proofs.Spelled.{ArePairs, pairs_spelled, members_spelled}
+use Rattle.cbor_fields.proofs.Public.Spelled.{ArePairs, pairs_spelled, members_spelled}
 use Rattle.cbor_core.proofs.Public.Views.{unsigned_is, array_is, map_is}
-use Rattle.cbor_fields.proofs.Forms.{id_determines, unsigned_determines, bytes_determines, text_determines, list_determines}
-use Rattle.cbor_fields.proofs.Puts.{IsNew}
-use Rattle.cbor_fields.proofs.Fields.{field_back, all_others}
+use Rattle.cbor_fields.proofs.Public.Forms.{id_determines, unsigned_determines, bytes_determines, text_determines, list_determines}
+use Rattle.cbor_fields.proofs.Public.Puts.{IsNew}
+use Rattle.cbor_fields.proofs.Public.Fields.{field_back, all_others}
 use Rattle.teep_messages.specs.declared.options.Options.{Options}
 use Rattle.teep_messages.specs.declared.operation.Operation.{Operation}
 use Rattle.teep_messages.specs.declared.message.Message.{Message}

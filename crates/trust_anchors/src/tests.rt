@@ -1,8 +1,8 @@
 mod vectors;
 
 use crate::{AnchorFault, Anchors, Role, SignFault};
-use base_types::ANCHORS_LIMIT;
-use cbor_core::{Item, List, Octets};
+use base_types::{ANCHORS_LIMIT, List, Octets};
+use cbor_core::Item;
 use cose_core::{CoseKey, Sign1};
 use hss_verify::HssPublic;
 use std::alloc::Global;

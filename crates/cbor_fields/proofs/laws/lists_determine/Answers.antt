@@ -1,4 +1,4 @@
-use Rattle.cbor_fields.proofs.Forms.{list_determines}
+use Rattle.cbor_fields.proofs.Public.Forms.{list_determines}
 use Rattle.cbor_fields.proofs.laws.lists_determine.Goals as goal
 
 pub returns : goal.returns

@@ -1,5 +1,5 @@
 use Rattle.std.proofs.lemmas.Result.{err_from_is_err_and}
-use Rattle.cbor_fields.specs.Reads.{Reads}
+use Rattle.cbor_fields.specs.Reads.{ReadsForm}
 use Rattle.cbor_fields.specs.declared.fault.FormFault.{FormFault}
 use Rattle.cbor_fields.specs.declared.fault.FormFault.TheVariants.{Shape, NoMemory}
 use Rattle.std.specs.Prelude.{◌≡◌, Option, None, Err}
@@ -7,7 +7,7 @@ use Rattle.cbor_fields.proofs.Each.{all_read, one_unread}
 use Rattle.cbor_fields.proofs.list.read_each.Goals as goal
 
 -- a refusal of a part is one of the whole, where the part's Shape is the whole's
-handed_on : {A B : Type 0} (part : Option A) (whole : Option B) (e : FormFault) → (part ≡ None → whole ≡ None) → Reads {A = A} part (Err e) → Reads {A = B} whole (Err e)
+handed_on : {A B : Type 0} (part : Option A) (whole : Option B) (e : FormFault) → (part ≡ None → whole ≡ None) → ReadsForm {A = A} part (Err e) → ReadsForm {A = B} whole (Err e)
 handed_on part whole Shape follows reads = follows reads
 handed_on part whole NoMemory follows reads = tt
 

@@ -5,7 +5,7 @@ use Rattle.cbor_core.specs.declared.item.Pair.{Pair}
 use Rattle.cbor_core.specs.Spelling.{IsProper}
 use Rattle.cbor_core.proofs.Public.KeyOrder.{layers}
 use Rattle.cbor_fields.specs.Written.{labelled, put, put_if}
-use Rattle.cbor_fields.proofs.Puts.{put_here, put_behind}
+use Rattle.cbor_fields.proofs.Public.Puts.{put_here, put_behind}
 use Rattle.teep_messages.specs.declared.options.Options.{Options}
 use Rattle.teep_messages.specs.declared.message.Message.TheVariants.{Update}
 use Rattle.teep_messages.specs.Options.{no_options}

@@ -1,7 +1,7 @@
 use Rattle.std.proofs.Common.{sym, ap, ◌∙◌}
 use Rattle.std.specs.Prelude.{Err}
 use Rattle.cbor_fields.specs.Written.{decoded}
-use Rattle.cbor_fields.proofs.Forms.{decoded_is, decoded_none}
+use Rattle.cbor_fields.proofs.Public.Forms.{decoded_is, decoded_none}
 use Rattle.cbor_fields.proofs.id.IdFormOctets.write.Goals as goal
 
 pub returns-in-Ok : goal.returns-in-Ok

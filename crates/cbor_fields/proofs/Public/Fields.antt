@@ -7,8 +7,8 @@ use Rattle.cbor_core.specs.Views.{field, labelled_by}
 use Rattle.cbor_fields.specs.Views.{optional, field_of, needed_of, keys_among, is_among, others}
 use Rattle.cbor_fields.specs.Written.{Determines, put, put_if}
 use Rattle.cbor_fields.specs.Law.{FieldsPutBack}
-use Rattle.cbor_fields.proofs.Spelled.{ArePairs, value_spelled}
-use Rattle.cbor_fields.proofs.Puts.{IsNew, put_option, restored}
+use Rattle.cbor_fields.proofs.Public.Spelled.{ArePairs, value_spelled}
+use Rattle.cbor_fields.proofs.Public.Puts.{IsNew, put_option, restored}
 
 module _ {V : Type 0} (view : Item → Option V) (item : V → Item) (determines : Determines view item) (label : ℕ) (labels : List ℕ) (small : label < 24) (new : IsNew label labels) (ps : List Pair) (are : ArePairs ps) where
   -- its value, where it is there

@@ -6,9 +6,9 @@ use Rattle.cbor_core.specs.declared.item.Item.{Item}
 use Rattle.cbor_core.specs.declared.item.Pair.{Pair}
 use Rattle.cbor_core.specs.Spelling.{spelling, Spells}
 use Rattle.cbor_core.specs.Views.{array_of, field}
-use Rattle.cbor_fields.specs.Views.{each_of, list_of, is_id, id_of, optional, field_of, needed_of, is_other, others}
+use Rattle.cbor_fields.specs.Views.{SpellsId, each_of, list_of, is_id, id_of, optional, field_of, needed_of, is_other, others}
 use Rattle.cbor_fields.specs.Written.{IsSpelled}
-use Rattle.cbor_fields.proofs.Spelled.{ArePairs, members_spelled, value_spelled}
+use Rattle.cbor_fields.proofs.Public.Spelled.{ArePairs, members_spelled, value_spelled}
 
 -- ---- where a fact follows from a value
 
@@ -60,14 +60,14 @@ module _ {V : Type 0} (view : Item → Option V) (P : V → Type 0) (gives : (x 
 
 -- ---- identifiers
 
-by_id : (x : Item) (bytes : List ℕ) (b : Bool) → IsSpelled x → is_id x ≡ b → cond b (Some (spelling x)) None ≡ Some bytes → Spells x bytes × (is_id x ≡ true)
+by_id : (x : Item) (bytes : List ℕ) (b : Bool) → IsSpelled x → is_id x ≡ b → cond b (Some (spelling x)) None ≡ Some bytes → SpellsId x bytes
 by_id x bytes true s is e =
     let same : spelling x ≡ bytes = cc in
     (subst (λ (t : List ℕ). Spells x t) same s, is)
 by_id x bytes false s is e = absurd cc
 
 -- what is read as an identifier spells one
-pub id_gives : (x : Item) (bytes : List ℕ) → IsSpelled x → id_of x ≡ Some bytes → Spells x bytes × (is_id x ≡ true)
+pub id_gives : (x : Item) (bytes : List ℕ) → IsSpelled x → id_of x ≡ Some bytes → SpellsId x bytes
 id_gives x bytes s e = by_id x bytes (is_id x) s refl e
 
 -- ---- other pairs

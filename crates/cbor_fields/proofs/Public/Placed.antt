@@ -13,8 +13,8 @@ use Rattle.cbor_core.specs.Views.{field, labelled_by}
 use Rattle.cbor_fields.specs.Views.{each_of, list_of, is_id, id_of, optional, is_among, is_other, others}
 use Rattle.cbor_fields.specs.Written.{decoded, labelled, is_below_by, is_below, put, put_if}
 use Rattle.cbor_fields.proofs.Ids.{id_value}
-use Rattle.cbor_fields.proofs.Forms.{decoded_is}
-use Rattle.cbor_fields.proofs.Puts.{put_end, put_behind, put_here}
+use Rattle.cbor_fields.proofs.Public.Forms.{decoded_is}
+use Rattle.cbor_fields.proofs.Public.Puts.{put_end, put_behind, put_here}
 
 -- ---- one item put
 

@@ -10,12 +10,11 @@ use Rattle.cbor_heads.specs.Place.{start}
 use Rattle.cbor_core.specs.Spelling.{spelling, Spells}
 use Rattle.cbor_core.specs.Law.{SpellsFront, IsFaultyWhole}
 use Rattle.cbor_core.specs.Views.{unsigned_of, bytes_of, text_of, truth_of, array_of}
-use Rattle.cbor_core.proofs.Public.Whole.{reads, spelled_in_front}
-use Rattle.cbor_core.proofs.Refused.{item_refuses}
+use Rattle.cbor_core.proofs.Public.Whole.{reads, refuses, whole_front}
 use Rattle.cbor_fields.specs.Views.{each_of, list_of, is_id, id_of}
 use Rattle.cbor_fields.specs.Written.{IsSpelled, Determines, whole, decoded_by, decoded}
 use Rattle.cbor_fields.specs.Law.{FormsDetermine}
-use Rattle.cbor_fields.proofs.Spelled.{members_spelled}
+use Rattle.cbor_fields.proofs.Public.Spelled.{members_spelled}
 use Rattle.cbor_core.proofs.Public.Views.{unsigned_is, bytes_is, text_is, truth_is, array_is}
 
 pub unsigned_determines : Determines unsigned_of (λ n. i.Unsigned n)
@@ -29,9 +28,6 @@ text_determines x t s e = text_is x t e
 
 pub truth_determines : Determines truth_of (λ b. i.Truth b)
 truth_determines x b s e = truth_is x b e
-
-pub itself_determines : Determines (λ x. Some x) (λ x. x)
-itself_determines x y s e = cc
 
 -- ---- lists
 
@@ -67,9 +63,6 @@ whole_end : (x : Item) (bytes : List ℕ) → bytes ≡ [] → whole x bytes ≡
 whole_end x [] e = refl
 whole_end x (byte ∷ bytes) e = absurd cc
 
-whole_front : (bytes : List ℕ) (x : Item) → Spells x bytes → SpellsFront bytes x (length bytes)
-whole_front bytes x s = subst (λ (t : List ℕ). SpellsFront t x (length bytes)) (append-nil bytes) (spelled_in_front x bytes [] s)
-
 -- what bytes spell is decoded
 pub decoded_is : (bytes : List ℕ) (x : Item) → Spells x bytes → decoded bytes ≡ x
 unfolding decoded
@@ -85,7 +78,7 @@ decoded_front bytes x n front more =
 -- bytes that spell no item
 pub decoded_none : (bytes : List ℕ) (f : Fault) → IsFaultyWhole bytes f → decoded bytes ≡ i.Null
 unfolding decoded
-decoded_none bytes f (inl faulty) = ap decoded_by (item_refuses 16 (start bytes) f faulty)
+decoded_none bytes f (inl faulty) = ap decoded_by (refuses bytes f faulty)
 decoded_none bytes f (inr extra) = decoded_front bytes extra.item f.at extra.front extra.more
 
 by_id : (x : Item) (bytes : List ℕ) (b : Bool) → IsSpelled x → is_id x ≡ b → cond b (Some (spelling x)) None ≡ Some bytes → x ≡ decoded bytes
@@ -103,6 +96,5 @@ forms_determine = record {
   bytes = bytes_determines;
   text = text_determines;
   truth = truth_determines;
-  anything = itself_determines;
   id = id_determines;
 }
