@@ -11,6 +11,8 @@ mod gated;
 mod history;
 mod memory_board;
 mod stop;
+#[cfg(test)]
+mod tests;
 
 pub use board::Board;
 pub use call::Call;

@@ -4,7 +4,7 @@ use Rattle.std.proofs.lemmas.List.{take_at, drop_at, length-take-le}
 use Rattle.std.proofs.lemmas.Bool.{cases_eq}
 use Rattle.std.proofs.Math.Seq.{drop-cons}
 use Rattle.board_core.specs.Moments.{SameOutside, written}
-use Rattle.board_core.proofs.Ranges.{outside_wider, outside_written}
+use Rattle.board_core.proofs.Public.Ranges.{outside_wider, outside_written}
 use Rattle.journal_core.specs.Frames.{frame, frames, IsBody, AreBodies}
 use Rattle.journal_core.specs.Region.{HalfStands}
 use Rattle.journal_core.proofs.Scanned.{sizes-more, frames-more}

@@ -1,9 +1,9 @@
-pub mod Unframing
-pub mod Prefixes
-pub mod Fronts
-pub mod Scanned
-pub mod Scan
-pub mod Halves
-pub mod Changes
-pub mod OneList
-pub mod Placed
+mod Unframing
+mod Prefixes
+mod Fronts
+mod Scanned
+mod Scan
+mod Halves
+mod Changes
+mod OneList
+mod Placed

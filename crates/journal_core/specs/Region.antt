@@ -1,7 +1,7 @@
 -- Which list of bodies a region of the image stands for.
 use Rattle.std.specs.Prelude.{◌≡◌, ◌≢◌, ℕ, ◌+◌, ◌*◌, ◌%◌, ◌<◌, ◌≤◌, ◌==◌, ◌⊎◌, Bool, true, false, List, ◌∷◌, ◌++◌, length, take, drop, slice_index}
 use Rattle.std.specs.Int.{from_be_bytes, w32}
-use Rattle.board_core.specs.Contents.{Contents}
+use Rattle.board_core.specs.Contents.{View}
 use Rattle.board_core.specs.Moments.{SameOutside}
 use Rattle.journal_core.specs.declared.region.Region.{Region}
 use Rattle.journal_core.specs.Frames.{frames, AreBodies}
@@ -56,7 +56,7 @@ RegionOverruns region image = HalfOverruns (half_at region (selected region imag
 
 -- what a crash within a change of the list may leave: no more was sent, all outside the region is as before, and the
 -- region stands for the old list or for the new one
-pub record Leaves (region : Region) (old_bodies new_bodies : List (List ℕ)) (old : Contents) (sent image : List ℕ) : Type 0 where
-  pub sent_same : sent ≡ old.sent
-  pub outside : SameOutside region.at (region_size region) old.bytes image
+pub record Leaves (region : Region) (old_bodies new_bodies : List (List ℕ)) (old : View) (sent image : List ℕ) : Type 0 where
+  pub sent_same : sent ≡ old.now.stream.sent
+  pub outside : SameOutside region.at (region_size region) old.now.disk.bytes image
   pub either : RegionStands region image old_bodies ⊎ RegionStands region image new_bodies

@@ -14,8 +14,6 @@ mod mount;
 mod place;
 mod region;
 mod replace;
-#[cfg(test)]
-mod tests;
 
 pub use fault::{AppendFault, JournalFault};
 pub use framed::Framed;

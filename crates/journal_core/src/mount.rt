@@ -1,12 +1,10 @@
-ghost use Rattle.std.specs.Prelude.{◌≡◌, ◌≤◌, ◌+◌, ◌-◌, ◌<◌, ◌*◌, IfOk, OnOk, OnErr};
-ghost use Rattle.base_types.specs.Causes.{Rose};
+ghost use Rattle.std.specs.Prelude.{◌≡◌, ◌≤◌, ◌-◌, Err, IfOk};
 ghost use Rattle.board_core.specs.Contents.{Same};
 ghost use Rattle.board_core.specs.Moments.{Passes, NoMoment};
-ghost use Rattle.board_core.specs.Calls.{DiskCause};
+ghost use Rattle.board_core.specs.Calls.{DiskCause, DiskCausedBy};
 ghost use Rattle.journal_core.specs.Region.{selected};
 ghost use Rattle.journal_core.specs.Kept.{IsWithin, IsOf};
-ghost use Rattle.journal_core.specs.Scanning.{IsEmpty, Scans, GateIs, FitsIn, behind, TakesIn};
-ghost use Rattle.board_core.specs.Contents.{DiskAlone};
+ghost use Rattle.journal_core.specs.Scanning.{IsEmpty, Scans, GateIs, FitsIn, behind};
 ghost use Rattle.journal_core.specs.Outcome.{Mounts};
 
 use crate::fault::JournalFault;
@@ -35,21 +33,20 @@ pub enum Gate {
 impl Journal {
     /// Finds the list of the region, which lies within the image. It loads, and changes nothing.
     ///
-    /// `NoJournal` exactly where the region stands for no list and no load failed; `DiskFault` only where
-    /// the count of failed disk calls rose in this call.
+    /// It does not sync: a list that stands in bytes which are pending is not durable, and a crash may
+    /// leave another or none. `NoJournal` exactly where the region stands for no list and no load failed;
+    /// `DiskFault` exactly where the count of failed disk calls rose in this call.
     pub fn mount<B: Board>(
         alloc: Global,
         board: &mut B,
         region: Region,
     ) -> Result<Journal, JournalFault>
-        requires { IsWithin region (B.extent board.old) }
-        ensures mounts { B.told → Mounts region (B.now board.old).bytes result }
+        requires { IsWithin region (B.view board.old).extent }
+        ensures mounts { B.told → Mounts region (B.view board.old).now.disk.bytes result }
         ensures region { IfOk result (λ journal. journal.region ≡ region) }
-        ensures disk_fault { result ≡ Err JournalFault.DiskFault → Rose (B.faults board.old).disk (B.faults board.new).disk }
-        ensures counts { DiskAlone (B.faults board.old) (B.faults board.new) }
-        ensures extent { B.extent board.new ≡ B.extent board.old }
-        ensures same { B.told → Same (B.now board.old) (B.now board.new) }
-        ensures moments { B.told → Passes (B.now board.old) (B.now board.new) (B.left board.old) (B.left board.new) NoMoment }
+        ensures cause { DiskCausedBy (result ≡ Err JournalFault.DiskFault) (B.view board.old) (B.view board.new) }
+        ensures same { B.told → Same (B.view board.old) (B.view board.new) }
+        ensures moments { B.told → Passes (B.view board.old) (B.view board.new) NoMoment }
     {
         let size = board.size();
         prove!(region.at <= size);
@@ -65,15 +62,13 @@ impl Journal {
 
     // Takes in every body of the half, from its first gate to the one that is not open.
     fn scan<B: Board>(mut self, board: &mut B) -> Result<Journal, JournalFault>
-        requires within { IsWithin self.region (B.extent board.old) }
+        requires within { IsWithin self.region (B.view board.old).extent }
         requires empty { IsEmpty self }
-        ensures mounts { B.told → Scans self (B.now board.old).bytes result }
+        ensures mounts { B.told → Scans self (B.view board.old).now.disk.bytes result }
         ensures is_of { IfOk result (IsOf self) }
-        ensures disk_fault { result ≡ Err JournalFault.DiskFault → Rose (B.faults board.old).disk (B.faults board.new).disk }
-        ensures counts { DiskAlone (B.faults board.old) (B.faults board.new) }
-        ensures extent { B.extent board.new ≡ B.extent board.old }
-        ensures same { B.told → Same (B.now board.old) (B.now board.new) }
-        ensures moments { B.told → Passes (B.now board.old) (B.now board.new) (B.left board.old) (B.left board.new) NoMoment }
+        ensures cause { DiskCausedBy (result ≡ Err JournalFault.DiskFault) (B.view board.old) (B.view board.new) }
+        ensures same { B.told → Same (B.view board.old) (B.view board.new) }
+        ensures moments { B.told → Passes (B.view board.old) (B.view board.new) NoMoment }
     {
         loop {
             match self.next_gate(board)? {
@@ -86,13 +81,12 @@ impl Journal {
 
     // What stands at the gate behind the bodies so far.
     fn next_gate<B: Board>(&self, board: &mut B) -> Result<Gate, Failed>
-        requires { IsWithin self.now.region (B.extent board.old) }
-        ensures gate { B.told → IfOk result (GateIs (self.now.region.half - self.now.used) (behind self.now (B.now board.old).bytes)) }
+        requires { IsWithin self.now.region (B.view board.old).extent }
+        ensures gate { B.told → IfOk result (GateIs (self.now.region.half - self.now.used) (behind self.now (B.view board.old).now.disk.bytes)) }
         ensures fits { IfOk result (FitsIn (self.now.region.half - self.now.used)) }
-        ensures cause { DiskCause (B.faults board.old) (B.faults board.new) result }
-        ensures extent { B.extent board.new ≡ B.extent board.old }
-        ensures same { B.told → Same (B.now board.old) (B.now board.new) }
-        ensures moments { B.told → Passes (B.now board.old) (B.now board.new) (B.left board.old) (B.left board.new) NoMoment }
+        ensures cause { DiskCause (B.view board.old) (B.view board.new) result }
+        ensures same { B.told → Same (B.view board.old) (B.view board.new) }
+        ensures moments { B.told → Passes (B.view board.old) (B.view board.new) NoMoment }
     {
         let at = self.half_at() + self.used;
         let room = self.region.half - self.used;
@@ -133,12 +127,11 @@ fn gate_of(opening: [u8; 5], room: u64) -> Gate
 
 // Whether the second half counts.
 fn selects_second<B: Board>(board: &mut B, region: Region) -> Result<bool, Failed>
-    requires { IsWithin region (B.extent board.old) }
-    ensures second { B.told → IfOk result (λ second. second ≡ selected region (B.now board.old).bytes) }
-    ensures cause { DiskCause (B.faults board.old) (B.faults board.new) result }
-    ensures extent { B.extent board.new ≡ B.extent board.old }
-    ensures same { B.told → Same (B.now board.old) (B.now board.new) }
-    ensures moments { B.told → Passes (B.now board.old) (B.now board.new) (B.left board.old) (B.left board.new) NoMoment }
+    requires { IsWithin region (B.view board.old).extent }
+    ensures second { B.told → IfOk result (λ second. second ≡ selected region (B.view board.old).now.disk.bytes) }
+    ensures cause { DiskCause (B.view board.old) (B.view board.new) result }
+    ensures same { B.told → Same (B.view board.old) (B.view board.new) }
+    ensures moments { B.told → Passes (B.view board.old) (B.view board.new) NoMoment }
 {
     let mut selector = [0u8; 1];
     board.load(region.at, &mut selector)?;

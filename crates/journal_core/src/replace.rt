@@ -1,13 +1,12 @@
-ghost use Rattle.std.specs.Prelude.{◌≡◌, ◌↔◌, ◌+◌, ◌<◌, ◌≤◌, ℕ, List, length, OnOk, OnErr};
-ghost use Rattle.base_types.specs.Causes.{Rose};
+ghost use Rattle.std.specs.Prelude.{◌≡◌, ◌↔◌, ◌+◌, ◌<◌, ◌≤◌, Err, List, ℕ, length, OnOk, OnErr};
 ghost use Rattle.board_core.specs.Contents.{NothingPending};
 ghost use Rattle.board_core.specs.Moments.{Passes};
+ghost use Rattle.board_core.specs.Calls.{DiskCausedBy};
 ghost use Rattle.journal_core.specs.Frames.{frames};
 ghost use Rattle.journal_core.specs.Region.{Leaves};
 ghost use Rattle.journal_core.specs.Kept.{IsWithin, Fits, IsOf, Keeps};
 ghost use Rattle.journal_core.specs.Scanning.{IsEmpty};
-ghost use Rattle.board_core.specs.Contents.{DiskAlone};
-ghost use Rattle.journal_core.specs.Outcome.{Stores};
+ghost use Rattle.journal_core.specs.Outcome.{Makes, SameRegion, StoresWithin};
 
 use crate::fault::AppendFault;
 use crate::framed::Framed;
@@ -19,33 +18,27 @@ impl Journal {
     ///
     /// They are put into the half that does not count, and the selector then makes it count. `Full`
     /// exactly where the framed bodies and the closed gate behind them are together more than the half;
-    /// nothing was put then. `DiskFault` only where the count of failed disk calls rose in this call; the
-    /// journal is mounted again then, behind a good sync, before further use. At each moment the region
-    /// stands for the old list or for the new one.
+    /// nothing was put then. `DiskFault` exactly where the count of failed disk calls rose in this call;
+    /// the journal is mounted again then, behind a good sync, before further use. At each moment the
+    /// region stands for the old list or for the new one, and nothing outside it changes.
     pub fn replace<B: Board>(&mut self, board: &mut B, framed: &Framed) -> Result<(), AppendFault>
         requires room { length framed.now ≤ self.old.spare }
-        requires within { IsWithin self.old.region (B.extent board.old) }
+        requires within { IsWithin self.old.region (B.view board.old).extent }
 
         // The board fits the journal again, whose list is the framed bodies, and nothing is pending.
-        ensures done { B.told → (bodies : List (List ℕ)) → Fits self.old (B.now board.old).bytes bodies →
-            OnOk result (Fits self.new (B.now board.new).bytes framed.now) }
-        ensures clean { B.told → OnOk result (NothingPending (B.now board.new)) }
-        ensures spare { OnOk result (self.old.spare ≤ self.new.spare + length framed.now) }
+        ensures done { B.told → OnOk result (Makes (λ bodies. framed.now) self.old self.new (B.view board.old) (B.view board.new)) }
+        ensures full { (result ≡ Err AppendFault.Full) ↔ (self.old.region.half < length (frames framed.now) + 1) }
 
         // A refusal leaves the journal as it was, and Full the board too.
         ensures kept { OnErr result (self.new ≡ self.old) }
-        ensures full { (result ≡ Err AppendFault.Full) ↔ (self.old.region.half < length (frames framed.now) + 1) }
-        ensures untouched { result ≡ Err AppendFault.Full → board.new ≡ board.old }
-        ensures disk_fault { result ≡ Err AppendFault.DiskFault → Rose (B.faults board.old).disk (B.faults board.new).disk }
+        ensures refused { result ≡ Err AppendFault.Full → board.new ≡ board.old }
 
         // Whatever it answers.
-        ensures region { self.new.region ≡ self.old.region }
-        ensures counts { DiskAlone (B.faults board.old) (B.faults board.new) }
-        ensures extent { B.extent board.new ≡ B.extent board.old }
-        ensures stores { B.told → Stores (length (frames framed.now) + 2) (B.now board.old) (B.now board.new) }
-        ensures moments { B.told → NothingPending (B.now board.old) → (bodies : List (List ℕ)) → Fits self.old (B.now board.old).bytes bodies →
-            Passes (B.now board.old) (B.now board.new) (B.left board.old) (B.left board.new)
-            (Leaves self.old.region bodies framed.now (B.now board.old)) }
+        ensures cause { DiskCausedBy (result ≡ Err AppendFault.DiskFault) (B.view board.old) (B.view board.new) }
+        ensures same { SameRegion (length framed.now) self.old self.new }
+        ensures untouched { B.told → StoresWithin self.old.region (length (frames framed.now) + 2) (B.view board.old) (B.view board.new) }
+        ensures moments { B.told → NothingPending (B.view board.old) → (bodies : List (List ℕ)) → Fits self.old (B.view board.old).now.disk.bytes bodies →
+            Passes (B.view board.old) (B.view board.new) (Leaves self.old.region bodies framed.now (B.view board.old)) }
     {
         if self.half() < framed.bytes().len() as u64 {
             return Err(AppendFault::Full);
