@@ -8,3 +8,4 @@ pub mod Arrays
 pub mod Wraps
 pub mod Whole
 pub mod InOrder
+pub mod Passed

@@ -24,3 +24,9 @@ pub record Exact {V : Type 0} (view : Item → Option V) (item : V → Item) (P 
   pub fixes : (x : Item) (v : V) → IsSpelled x → view x ≡ Some v → x ≡ item v
   pub proper : (x : Item) (v : V) → IsSpelled x → view x ≡ Some v → P v
   pub seen : (v : V) → P v → view (item v) ≡ Some v
+
+-- The same but for `fixes`: a view that passes over what it does not know has its values of several items.
+pub record PassingPart {V E : Type 0} (none : E) (view : Item → Result V E) (item : V → Item) (P : V → Type 0) : Type 0 where
+  pub settled : (x : Item) → IsSettled none (view x)
+  pub proper : (x : Item) (v : V) → IsSpelled x → view x ≡ Ok v → P v
+  pub seen : (v : V) → P v → view (item v) ≡ Ok v

@@ -10,6 +10,8 @@ mod ordered;
 mod part;
 mod refusal;
 mod row;
+#[cfg(test)]
+mod tests;
 mod wrap;
 
 pub use ordered::{take_field, take_needed};

@@ -1,7 +1,6 @@
 -- What bytes as a whole are: a message, or refused in one way.
 use Rattle.std.specs.Prelude.{ℕ, ◌≡◌, ◌⊎◌, List}
-use Rattle.base_types.specs.Bytes.{IsBytes}
-use Rattle.cbor_core.specs.Spelling.{HasRanges, spelling}
+use Rattle.cbor_core.specs.Spelling.{IsBytes, HasRanges, spelling}
 use Rattle.teep_messages.specs.declared.message.Message.{Message}
 use Rattle.teep_messages.specs.declared.fault.MessageFault.{MessageFault}
 use Rattle.teep_messages.specs.Messages.{MessageIs, RefusedAs}

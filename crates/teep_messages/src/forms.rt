@@ -1,7 +1,7 @@
 ghost use Rattle.teep_messages.specs.Rows.{reported_of, requested_of, operation_of, profile_of};
 ghost use Rattle.teep_messages.specs.Rows as Rows;
 ghost use Rattle.teep_messages.specs.Written as Written;
-ghost use Rattle.cbor_fields.specs.Reads.{ReadsForm};
+ghost use Rattle.cbor_fields.specs.Reads.{Reads};
 
 use crate::operation::Operation;
 use crate::reported::Reported;
@@ -44,7 +44,7 @@ impl Form<Reported> for ReportedMap {
 }
 
 fn read_reported(alloc: Global, pairs: &[Pair]) -> Result<Reported, FormFault>
-    ensures { ReadsForm (Rows.reported_in pairs.now) result }
+    ensures { Reads (Rows.reported_in pairs.now) result }
 {
     if !has_keys_among(&[ID, SEQUENCE], pairs) {
         return Err(FormFault::Shape);
@@ -79,7 +79,7 @@ impl Form<Requested> for RequestedMap {
 }
 
 fn read_requested(alloc: Global, pairs: &[Pair]) -> Result<Requested, FormFault>
-    ensures { ReadsForm (Rows.requested_in pairs.now) result }
+    ensures { Reads (Rows.requested_in pairs.now) result }
 {
     if !has_keys_among(&[ID, SEQUENCE, FLAG], pairs) {
         return Err(FormFault::Shape);
@@ -114,7 +114,7 @@ impl Form<Operation> for OperationPair {
 }
 
 fn read_operation(alloc: Global, members: &[Item]) -> Result<Operation, FormFault>
-    ensures { ReadsForm (Rows.operation_in members.now) result }
+    ensures { Reads (Rows.operation_in members.now) result }
 {
     let [tag, alg] = members else {
         return Err(FormFault::Shape);
@@ -145,7 +145,7 @@ impl Form<List<Item>> for ProfileArray {
 }
 
 fn read_profile(alloc: Global, members: &[Item]) -> Result<List<Item>, FormFault>
-    ensures { ReadsForm (Rows.unless_empty members.now) result }
+    ensures { Reads (Rows.unless_empty members.now) result }
 {
     if members.is_empty() {
         return Err(FormFault::Shape);

@@ -127,17 +127,17 @@ module _ {V E : Type 0} {none : E} {view : Item → Result V E} {item : V → It
         spelled = is.spelled.spelled ∙ ap spelling same;
       }
 
-  -- what a value with the property is written as is the value
-  pub written_value : (v : V) (bytes : List ℕ) → P v → Spells (item v) bytes → HasValue view bytes v
-  written_value v bytes proper s = record { item = item v; spelled = s; is = part.seen v proper }
+  -- no other bytes are the value that a writer wrote
+  pub writes_one : (v : V) (r : Result (List ℕ) NoMemory) → IfOk r (λ bytes. HasValue view bytes v) → IfOk r (λ bytes. (other : List ℕ) → HasValue view other v → other ≡ bytes)
+  writes_one v (Ok bytes) is = λ other is_other. one_spelling v other bytes is_other is
+  writes_one v (Err e) is = tt
 
-  module _ (v : V) (proper : P v) (x : Item) (same : x ≡ item v) where
-    -- a writer gives bytes that are the value
-    pub writes : (r : Result (List ℕ) NoMemory) → IfOk r (λ bytes. Spells x bytes) → IfOk r (λ bytes. HasValue view bytes v)
-    writes (Ok bytes) s = written_value v bytes proper (subst (λ (y : Item). Spells y bytes) same s)
-    writes (Err e) s = tt
+-- what is written of a value that is read again is the value
+module _ {V E : Type 0} (view : Item → Result V E) (item : V → Item) (v : V) (seen : view (item v) ≡ Ok v) where
+  pub written_value : (bytes : List ℕ) → Spells (item v) bytes → HasValue view bytes v
+  written_value bytes s = record { item = item v; spelled = s; is = seen }
 
-    -- and no other bytes are it
-    pub writes_one : (r : Result (List ℕ) NoMemory) → IfOk r (λ bytes. Spells x bytes) → IfOk r (λ bytes. (other : List ℕ) → HasValue view other v → other ≡ bytes)
-    writes_one (Ok bytes) s = λ other is. one_spelling v other bytes is (written_value v bytes proper (subst (λ (y : Item). Spells y bytes) same s))
-    writes_one (Err e) s = tt
+  -- a writer gives bytes that are the value
+  pub writes : (x : Item) → x ≡ item v → (r : Result (List ℕ) NoMemory) → IfOk r (λ bytes. Spells x bytes) → IfOk r (λ bytes. HasValue view bytes v)
+  writes x same (Ok bytes) s = written_value bytes (subst (λ (y : Item). Spells y bytes) same s)
+  writes x same (Err e) s = tt

@@ -1,5 +1,0 @@
-use Rattle.teep_messages.proofs.Written.{one_spelling}
-use Rattle.teep_messages.proofs.laws.one_spelling.Goals as goal
-
-pub returns : goal.returns
-returns c = one_spelling
