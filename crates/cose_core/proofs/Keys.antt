@@ -6,7 +6,7 @@ use Rattle.cbor_core.specs.declared.item.Pair.{Pair}
 use Rattle.cbor_core.specs.declared.item.Item.TheVariants as i
 use Rattle.cbor_core.specs.Spelling.{Spells, IsProper}
 use Rattle.cbor_core.specs.Views.{field, bytes_of, map_of}
-use Rattle.cbor_core.proofs.KeyOrder.{layers}
+use Rattle.cbor_core.proofs.Public.KeyOrder.{layers}
 use Rattle.cbor_fields.specs.Views.{negative_field}
 use Rattle.item_codec.specs.Answers.{IsSettled, or_fault}
 use Rattle.item_codec.specs.Fields.{shaped, optional_at, needed_at, required}

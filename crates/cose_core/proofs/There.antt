@@ -15,7 +15,8 @@ use Rattle.cose_core.specs.declared.labels.TheConstants.{ALG_HSS_LMS, HEADER_ALG
 use Rattle.cose_core.specs.Headers.{Wraps}
 use Rattle.cose_core.specs.Sign1.{untagged, tagged}
 use Rattle.cose_core.specs.Reading.{form_of, CheckedAs, ReadAs}
-use Rattle.cose_core.proofs.Views.{negative_is, negative_back, map_is, map_back}
+use Rattle.cose_core.proofs.Views.{negative_is, negative_back}
+use Rattle.cbor_core.proofs.Public.Views.{map_is, map_back}
 use Rattle.cose_core.proofs.Forms.{form_is}
 use Rattle.cose_core.proofs.Wholes.{whole_or_fault}
 use Rattle.cose_core.proofs.Sign1s.{not_checked}

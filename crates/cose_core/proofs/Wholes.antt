@@ -4,13 +4,13 @@ use Rattle.std.proofs.lemmas.Bool.{cases_lt}
 use Rattle.std.proofs.lemmas.List.{take_all, append-nil}
 use Rattle.base_types.specs.Bytes.{IsBytes}
 use Rattle.cbor_core.specs.declared.item.Item.{Item}
-use Rattle.cbor_core.specs.declared.fault.Fault.{Fault}
+use Rattle.cbor_heads.specs.declared.fault.Fault.{Fault}
 use Rattle.cbor_core.specs.declared.fault.Why.TheVariants as why
 use Rattle.cbor_core.specs.Spelling.{Spells}
 use Rattle.cbor_core.specs.Law.{OneItem, OneFault, SpellsFront, IsFaultyWhole, HasExtra}
-use Rattle.cbor_core.specs.Place.{Place, start}
+use Rattle.cbor_heads.specs.Place.{Place, start}
 use Rattle.cbor_core.specs.Reading.{item_at}
-use Rattle.cbor_core.proofs.Heads.{ok_is}
+use Rattle.cbor_heads.proofs.Public.Outcomes.{ok_is}
 use Rattle.cbor_core.proofs.Inputs.{exactly_one, spelled_in_front, reads}
 use Rattle.cbor_core.proofs.Refused.{item_refuses}
 

@@ -1,7 +1,7 @@
 -- What bytes as a whole give: the value or the refusal of the item that they spell, or the fault by which they spell none.
 use Rattle.std.specs.Prelude.{ℕ, ◌≡◌, ◌⊎◌, List, Result, Ok, Err}
 use Rattle.cbor_core.specs.declared.item.Item.{Item}
-use Rattle.cbor_core.specs.declared.fault.Fault.{Fault}
+use Rattle.cbor_heads.specs.declared.fault.Fault.{Fault}
 use Rattle.cbor_core.specs.Spelling.{Spells, IsProper, HasRanges, spelling}
 use Rattle.cbor_core.specs.Law.{IsFaultyWhole}
 use Rattle.item_codec.specs.Answers.{IsSettled}

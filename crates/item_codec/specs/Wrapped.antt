@@ -3,8 +3,9 @@ use Rattle.std.specs.Prelude.{ℕ, List, [], ◌∷◌, Option, Some, None, Resu
 use Rattle.base_types.specs.declared.limits.TheConstants.{CBOR_DEPTH_LIMIT}
 use Rattle.cbor_core.specs.declared.item.Item.{Item}
 use Rattle.cbor_core.specs.declared.item.Item.TheVariants as i
-use Rattle.cbor_core.specs.Place.{start}
-use Rattle.cbor_core.specs.Reading.{Outcome, item_at}
+use Rattle.cbor_heads.specs.Place.{start}
+use Rattle.cbor_core.specs.Reading.{item_at}
+use Rattle.cbor_heads.specs.Reading.{Outcome}
 use Rattle.cbor_core.specs.Spelling.{spelling}
 use Rattle.cbor_core.specs.Views.{bytes_of}
 use Rattle.cbor_fields.specs.Written.{IsSpelled}

@@ -1,7 +1,7 @@
 -- Bytes are one COSE_Sign1, or have one refusal, and never both.
 use Rattle.std.proofs.Common.{◌≡◌, ◌⊎◌, ℕ, List, Result, Ok, Err, sym, ap, subst, inl, inr}
 use Rattle.cbor_core.specs.declared.item.Item.{Item}
-use Rattle.cbor_core.specs.declared.fault.Fault.{Fault}
+use Rattle.cbor_heads.specs.declared.fault.Fault.{Fault}
 use Rattle.cbor_core.specs.Spelling.{Spells}
 use Rattle.cbor_core.specs.Law.{IsFaultyWhole}
 use Rattle.cose_core.specs.declared.sign1.Sign1.{Sign1}

@@ -2,7 +2,7 @@
 use Rattle.std.proofs.Common.{◌≡◌, ◌⊎◌, ℕ, List, sym, ◌∙◌, inl, inr}
 use Rattle.std.specs.Prelude.{Result, Ok, Err}
 use Rattle.base_types.specs.Bytes.{IsBytes}
-use Rattle.cbor_core.specs.declared.fault.Fault.{Fault}
+use Rattle.cbor_heads.specs.declared.fault.Fault.{Fault}
 use Rattle.item_codec.specs.Whole.{BytesGive}
 use Rattle.item_codec.proofs.Public.Whole as whole
 use Rattle.cose_core.specs.declared.key.CoseKey.{CoseKey}

@@ -7,7 +7,8 @@ use Rattle.cbor_core.specs.declared.item.Item.{Item}
 use Rattle.cbor_core.specs.declared.item.Item.TheVariants as i
 use Rattle.cbor_core.specs.Views.{array_of}
 use Rattle.cbor_fields.specs.Written.{IsSpelled}
-use Rattle.cbor_fields.proofs.Spelled.{members_spelled, array_is}
+use Rattle.cbor_fields.proofs.Public.Spelled.{members_spelled}
+use Rattle.cbor_core.proofs.Public.Views.{array_is}
 use Rattle.item_codec.specs.Answers.{and_then, or_fault, IsSettled}
 use Rattle.item_codec.specs.Part.{Part}
 use Rattle.item_codec.specs.Fields.{part, in_array}

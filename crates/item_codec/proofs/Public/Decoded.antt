@@ -4,10 +4,11 @@ use Rattle.std.specs.Prelude.{Ok, Err}
 use Rattle.std.proofs.lemmas.Bool.{cases_lt}
 use Rattle.std.proofs.lemmas.List.{append-nil, drop_all, drop_more, take_all}
 use Rattle.cbor_core.specs.declared.item.Item.{Item}
-use Rattle.cbor_core.specs.declared.fault.Fault.{Fault}
+use Rattle.cbor_heads.specs.declared.fault.Fault.{Fault}
 use Rattle.cbor_core.specs.declared.fault.Why.TheVariants as why
-use Rattle.cbor_core.specs.Place.{start}
-use Rattle.cbor_core.specs.Spelling.{IsBytes, Spells}
+use Rattle.cbor_heads.specs.Place.{start}
+use Rattle.cbor_core.specs.Spelling.{Spells}
+use Rattle.base_types.specs.Bytes.{IsBytes}
 use Rattle.cbor_core.specs.Law.{SpellsFront, IsFaultyWhole, OneItem}
 use Rattle.cbor_core.proofs.Inputs.{exactly_one, one_for_one, reads, spelled_in_front}
 use Rattle.cbor_core.proofs.Refused.{item_refuses}

@@ -8,12 +8,12 @@ use Rattle.cbor_core.specs.declared.item.Item.TheVariants as i
 use Rattle.cbor_core.specs.Views.{unsigned_of, bytes_of, text_of, truth_of}
 use Rattle.cbor_fields.specs.declared.fault.FormFault.{FormFault}
 use Rattle.cbor_fields.specs.declared.fault.FormFault.TheVariants.{Shape, NoMemory}
-use Rattle.cbor_fields.specs.Reads.{Reads}
+use Rattle.cbor_fields.specs.Reads.{ReadsForm as Reads}
 use Rattle.cbor_fields.specs.Views.{list_of}
-use Rattle.cbor_fields.proofs.Forms.{unsigned_determines, bytes_determines, text_determines, truth_determines, list_determines}
-use Rattle.cbor_fields.proofs.Spelled.{bytes_is}
-use Rattle.cbor_fields.proofs.Values.{list_gives}
-use Rattle.cbor_fields.proofs.Placed.{list_seen}
+use Rattle.cbor_fields.proofs.Public.Forms.{unsigned_determines, bytes_determines, text_determines, truth_determines, list_determines}
+use Rattle.cbor_core.proofs.Public.Views.{bytes_is}
+use Rattle.cbor_fields.proofs.Public.Values.{list_gives}
+use Rattle.cbor_fields.proofs.Public.Placed.{list_seen}
 use Rattle.item_codec.specs.Answers.{and_then, or_fault, value_of, Answers, IsSettled}
 use Rattle.item_codec.specs.Part.{Any, Part, Exact}
 use Rattle.item_codec.specs.Fields.{shaped, within, sized, IsWithin}

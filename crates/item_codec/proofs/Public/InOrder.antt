@@ -7,10 +7,11 @@ use Rattle.cbor_core.specs.declared.item.Item.TheOpen.{Item-F}
 use Rattle.cbor_core.specs.declared.item.Item.TheViews.{roll-Item, roll-out-Item}
 use Rattle.cbor_core.specs.declared.item.Item.TheVariants as i
 use Rattle.cbor_core.specs.declared.item.Pair.{Pair}
-use Rattle.cbor_core.specs.Spelling.{spelling, head, bytes_below, KeysAscend}
+use Rattle.cbor_core.specs.Spelling.{spelling, bytes_below, KeysAscend}
+use Rattle.cbor_heads.specs.Head.{head}
 use Rattle.cbor_core.specs.Views.{labelled_by}
-use Rattle.cbor_core.proofs.Spell.{spelling_Unsigned}
-use Rattle.cbor_core.proofs.Heads.{head_short, head_8}
+use Rattle.cbor_core.proofs.Public.Spell.{spelling_Unsigned}
+use Rattle.cbor_heads.proofs.Public.Heads.{head_short, head_8}
 use Rattle.cbor_fields.specs.Views.{is_among}
 use Rattle.item_codec.specs.Answers.{and_then, mapped}
 use Rattle.item_codec.specs.Ordered.{field, no_more}

@@ -8,9 +8,10 @@ use Rattle.cbor_core.specs.declared.item.Pair.{Pair}
 use Rattle.cbor_core.specs.Views.{map_of, field}
 use Rattle.cbor_fields.specs.Views.{others}
 use Rattle.cbor_fields.specs.Written.{IsSpelled, put_if}
-use Rattle.cbor_fields.proofs.Spelled.{ArePairs, pairs_spelled, value_spelled, map_is}
-use Rattle.cbor_fields.proofs.Puts.{IsNew, put_option, restored}
-use Rattle.cbor_fields.proofs.Fields.{all_others}
+use Rattle.cbor_fields.proofs.Public.Spelled.{ArePairs, pairs_spelled, value_spelled}
+use Rattle.cbor_core.proofs.Public.Views.{map_is}
+use Rattle.cbor_fields.proofs.Public.Puts.{IsNew, put_option, restored}
+use Rattle.cbor_fields.proofs.Public.Fields.{all_others}
 use Rattle.item_codec.specs.Answers.{and_then, mapped, or_fault, IsSettled}
 use Rattle.item_codec.specs.Part.{Part}
 use Rattle.item_codec.specs.Fields.{optional_at, known, in_map}

@@ -11,7 +11,8 @@ use Rattle.cbor_core.specs.declared.item.Pair.{Pair}
 use Rattle.cbor_core.specs.Views.{labelled_by, map_of}
 use Rattle.cbor_fields.specs.Views.{behind_key}
 use Rattle.cbor_fields.specs.Written.{IsSpelled, labelled}
-use Rattle.cbor_fields.proofs.Spelled.{pairs_spelled, map_is}
+use Rattle.cbor_fields.proofs.Public.Spelled.{pairs_spelled}
+use Rattle.cbor_core.proofs.Public.Views.{map_is}
 use Rattle.item_codec.specs.Answers.{and_then, mapped, or_fault, IsSettled}
 use Rattle.item_codec.specs.Part.{Part}
 use Rattle.item_codec.specs.Fields.{optional_at, needed_at, in_map}

@@ -7,7 +7,7 @@ use Rattle.cbor_core.specs.declared.item.Pair.{Pair}
 use Rattle.cbor_core.specs.Views.{map_of, field}
 use Rattle.cbor_fields.specs.Views.{negative_labelled_by, negative_field}
 use Rattle.cbor_fields.specs.Written.{IsSpelled}
-use Rattle.cbor_fields.proofs.Spelled.{pairs_spelled, value_spelled}
+use Rattle.cbor_fields.proofs.Public.Spelled.{pairs_spelled, value_spelled}
 use Rattle.item_codec.specs.Answers.{and_then, mapped, or_fault, IsSettled}
 use Rattle.item_codec.specs.Part.{Part, PassingPart}
 use Rattle.item_codec.specs.Fields.{optional_at, needed_at, known, required, in_map}

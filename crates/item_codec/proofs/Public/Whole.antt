@@ -5,9 +5,10 @@ use Rattle.std.proofs.lemmas.Bool.{cases_lt}
 use Rattle.std.proofs.lemmas.List.{take_all}
 use Rattle.base_types.specs.declared.memory.NoMemory.{NoMemory}
 use Rattle.cbor_core.specs.declared.item.Item.{Item}
-use Rattle.cbor_core.specs.declared.fault.Fault.{Fault}
+use Rattle.cbor_heads.specs.declared.fault.Fault.{Fault}
 use Rattle.cbor_core.specs.declared.fault.Why.TheVariants as why
-use Rattle.cbor_core.specs.Spelling.{IsBytes, Spells, spelling, IsProper, HasRanges}
+use Rattle.cbor_core.specs.Spelling.{Spells, spelling, IsProper, HasRanges}
+use Rattle.base_types.specs.Bytes.{IsBytes}
 use Rattle.cbor_core.specs.Law.{OneItem, OneFault, IsFaultyWhole, HasExtra}
 use Rattle.cbor_core.proofs.Inputs.{exactly_one}
 use Rattle.cbor_fields.specs.Written.{IsSpelled}

@@ -5,10 +5,11 @@ use Rattle.cbor_core.specs.declared.item.Item.{Item, out-Item}
 use Rattle.cbor_core.specs.declared.item.Item.TheOpen.{Item-F}
 use Rattle.cbor_core.specs.declared.item.Item.TheVariants as i
 use Rattle.cbor_core.specs.declared.item.Pair.{Pair}
-use Rattle.cbor_core.specs.Spelling.{spelling, Spells, IsBytes, IsInRangeBy, HasRangesWithin}
+use Rattle.cbor_core.specs.Spelling.{spelling, Spells, IsInRangeBy, HasRangesWithin}
+use Rattle.base_types.specs.Bytes.{IsBytes}
 use Rattle.cbor_core.specs.Views.{bytes_by, bytes_of}
 use Rattle.cbor_fields.specs.Written.{IsSpelled}
-use Rattle.cbor_fields.proofs.Spelled.{bytes_is}
+use Rattle.cbor_core.proofs.Public.Views.{bytes_is}
 use Rattle.item_codec.specs.Answers.{and_then, or_fault}
 use Rattle.item_codec.specs.Part.{Part}
 use Rattle.item_codec.specs.Wrapped.{item_in, unwrapped, wrapped, wrap, IsWrappable}
