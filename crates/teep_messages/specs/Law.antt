@@ -1,28 +1,17 @@
 -- What bytes as a whole are: a message, or refused in one way.
-use Rattle.std.specs.Prelude.{ℕ, ◌≡◌, ◌⊎◌, List}
-use Rattle.cbor_core.specs.Spelling.{IsBytes, HasRanges, spelling}
+use Rattle.std.specs.Prelude.{ℕ, ◌≡◌, List}
+use Rattle.cbor_core.specs.Spelling.{HasRanges, spelling}
+use Rattle.base_types.specs.Bytes.{IsBytes}
 use Rattle.teep_messages.specs.declared.message.Message.{Message}
-use Rattle.teep_messages.specs.declared.fault.MessageFault.{MessageFault}
-use Rattle.teep_messages.specs.Messages.{MessageIs, RefusedAs}
+use Rattle.item_codec.specs.Whole.{OneAnswer}
+use Rattle.teep_messages.specs.declared.fault.MessageFault.TheVariants.{Cbor, NoMemory}
+use Rattle.teep_messages.specs.Messages.{message_of, MessageIs}
 use Rattle.teep_messages.specs.Proper.{IsProperMessage}
 use Rattle.teep_messages.specs.Written.{written}
 
--- the bytes are one message, and have no refusal
-pub record OneMessage (bytes : List ℕ) : Type 0 where
-  pub message : Message
-  pub message_is : MessageIs message bytes
-  pub alone : (other : Message) → MessageIs other bytes → other ≡ message
-  pub no_refusal : (fault : MessageFault) → RefusedAs bytes fault → ⊥
-
--- the bytes have one refusal, and are no message
-pub record OneRefusal (bytes : List ℕ) : Type 0 where
-  pub fault : MessageFault
-  pub refused : RefusedAs bytes fault
-  pub alone : (other : MessageFault) → RefusedAs bytes other → other ≡ fault
-  pub no_message : (message : Message) → MessageIs message bytes → ⊥
-
+-- bytes are exactly one message, or have exactly one refusal, and never both
 abbrev pub ExactlyOne : Type 0
-ExactlyOne = (bytes : List ℕ) → IsBytes bytes → OneMessage bytes ⊎ OneRefusal bytes
+ExactlyOne = (bytes : List ℕ) → IsBytes bytes → OneAnswer NoMemory (λ f. Cbor f) message_of bytes
 
 -- a message is one list of bytes at most
 abbrev pub OneSpelling : Type 0

@@ -1,7 +1,6 @@
-pub mod Rows
+pub mod Forms
 pub mod Options
 pub mod Messages
 pub mod Written
 pub mod Proper
-pub mod Reading
 pub mod Law

@@ -3,7 +3,8 @@ use Rattle.std.specs.Prelude.{ℕ, List, [], ◌∷◌, map}
 use Rattle.cbor_core.specs.declared.item.Item.{Item}
 use Rattle.cbor_core.specs.declared.item.Item.TheVariants as i
 use Rattle.cbor_core.specs.declared.item.Pair.{Pair}
-use Rattle.cbor_fields.specs.Written.{decoded, put, put_if}
+use Rattle.cbor_fields.specs.Written.{decoded, put_if}
+use Rattle.item_codec.specs.Ordered.{row, needed_row}
 use Rattle.teep_messages.specs.declared.reported.Reported.{Reported}
 use Rattle.teep_messages.specs.declared.requested.Requested.{Requested}
 use Rattle.teep_messages.specs.declared.operation.Operation.{Operation}
@@ -13,12 +14,15 @@ use Rattle.teep_messages.specs.declared.message.Message.TheVariants.{QueryReques
 
 -- ---- values
 
+-- an unsigned integer
 abbrev pub unsigned : ℕ → Item
 unsigned n = i.Unsigned n
 
+-- a byte string
 abbrev pub bytes : List ℕ → Item
 bytes b = i.Bytes b
 
+-- a text string
 abbrev pub text : List ℕ → Item
 text t = i.Text t
 
@@ -26,23 +30,37 @@ text t = i.Text t
 abbrev pub array : {V : Type 0} → (V → Item) → List V → Item
 array item values = i.Array (map item values)
 
--- ---- rows
+-- ---- forms
 
 -- {16: id, 17: sequence}
+abbrev pub reported_rows : Reported → List Pair
+reported_rows v = needed_row decoded 16 v.id (needed_row unsigned 17 v.sequence [])
+
+-- a manifest that an agent has, a map of its fields
 abbrev pub reported : Reported → Item
-reported v = i.Map (put 17 (unsigned v.sequence) (put 16 (decoded v.id) []))
+reported v = i.Map (reported_rows v)
 
 -- {16: id}, with 17 and 18 where they are there
+abbrev pub requested_rows : Requested → List Pair
+requested_rows v = needed_row decoded 16 v.id (row unsigned 17 v.sequence (row (λ b. i.Truth b) 18 v.flag []))
+
+-- a manifest that an agent asks for, a map of its fields
 abbrev pub requested : Requested → Item
-requested v = i.Map (put_if (λ b. i.Truth b) 18 v.flag (put_if unsigned 17 v.sequence (put 16 (decoded v.id) [])))
+requested v = i.Map (requested_rows v)
 
 -- [tag, alg]
-abbrev pub operation : Operation → Item
-operation v = i.Array (unsigned v.tag ∷ v.alg ∷ [])
+abbrev pub operation_members : Operation → List Item
+operation_members v = unsigned v.tag ∷ v.alg ∷ []
 
+-- an operation, an array of its members
+abbrev pub operation : Operation → Item
+operation v = i.Array (operation_members v)
+
+-- a cipher suite, an array of its operations
 abbrev pub suite : List Operation → Item
 suite = array operation
 
+-- a profile, an array of its algorithms
 abbrev pub profile : List Item → Item
 profile members = i.Array members
 
@@ -65,23 +83,32 @@ option_pairs v =
     (put_if bytes 2 v.challenge
     v.other)))))))))))
 
+-- a map of options
 abbrev pub options_item : Options → Item
 options_item v = i.Map (option_pairs v)
 
 -- ---- messages
 
-abbrev pub question : Options → List (List Operation) → List (List Item) → ℕ → Item
-question options suites profiles items = i.Array (unsigned 1 ∷ options_item options ∷ array suite suites ∷ array profile profiles ∷ unsigned items ∷ [])
+-- [1, options, suites, profiles, items]
+abbrev pub question : Options → List (List Operation) → List (List Item) → ℕ → List Item
+question options suites profiles items = unsigned 1 ∷ options_item options ∷ array suite suites ∷ array profile profiles ∷ unsigned items ∷ []
 
-abbrev pub plain : ℕ → Options → Item
-plain kind options = i.Array (unsigned kind ∷ options_item options ∷ [])
+-- [kind, options]
+abbrev pub plain : ℕ → Options → List Item
+plain kind options = unsigned kind ∷ options_item options ∷ []
 
-abbrev pub failure : Options → ℕ → Item
-failure options code = i.Array (unsigned 6 ∷ options_item options ∷ unsigned code ∷ [])
+-- [6, options, code]
+abbrev pub failure : Options → ℕ → List Item
+failure options code = unsigned 6 ∷ options_item options ∷ unsigned code ∷ []
 
+-- the number of the kind, and then its parts
+abbrev pub members : Message → List Item
+members (QueryRequest options suites profiles items) = question options suites profiles items
+members (QueryResponse options) = plain 2 options
+members (Update options) = plain 3 options
+members (Success options) = plain 5 options
+members (Error options code) = failure options code
+
+-- the array of these
 abbrev pub written : Message → Item
-written (QueryRequest options suites profiles items) = question options suites profiles items
-written (QueryResponse options) = plain 2 options
-written (Update options) = plain 3 options
-written (Success options) = plain 5 options
-written (Error options code) = failure options code
+written message = i.Array (members message)

@@ -1,5 +1,6 @@
 use base_types::NoMemory;
-use cbor_core::{CborFault, Fault};
+use cbor_core::Fault;
+use item_codec::Refusal;
 use thiserror::Error;
 
 /// Why bytes are not read as a message.
@@ -35,15 +36,12 @@ impl From<NoMemory> for MessageFault {
     }
 }
 
-impl From<CborFault> for MessageFault {
-    ghost use Rattle.teep_messages.specs.Reading.{FromCbor};
+impl Refusal for MessageFault {
+    ghost use Rattle.teep_messages.specs.declared.fault.MessageFault.TheVariants as faults;
 
-    ghost from_gives = { FromCbor };
+    ghost no_memory = { faults.NoMemory };
 
-    fn from(fault: CborFault) -> MessageFault {
-        match fault {
-            CborFault::Bad(fault) => MessageFault::Cbor(fault),
-            CborFault::NoMemory => MessageFault::NoMemory,
-        }
+    fn out_of_memory() -> MessageFault {
+        MessageFault::NoMemory
     }
 }

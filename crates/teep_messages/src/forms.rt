@@ -1,17 +1,16 @@
-ghost use Rattle.teep_messages.specs.Rows.{reported_of, requested_of, operation_of, profile_of};
-ghost use Rattle.teep_messages.specs.Rows as Rows;
+ghost use Rattle.item_codec.specs.Answers.{Answers};
+ghost use Rattle.item_codec.specs.Fields.{in_map, in_array};
+ghost use Rattle.teep_messages.specs.Forms.{reported_of, requested_of, operation_of, profile_of};
+ghost use Rattle.teep_messages.specs.Forms as Forms;
 ghost use Rattle.teep_messages.specs.Written as Written;
-ghost use Rattle.cbor_fields.specs.Reads.{Reads};
 
 use crate::operation::Operation;
 use crate::reported::Reported;
 use crate::requested::Requested;
 use base_types::{List, OrMemory};
 use cbor_core::{Item, Pair, copy_items};
-use cbor_fields::{
-    Form, FormFault, Id, Truth, Unsigned, has_keys_among, put_field, put_needed, read_field,
-    read_needed,
-};
+use cbor_fields::{Form, FormFault, Id, Truth, Unsigned};
+use item_codec::{put_needed_row, put_row, read_part, take_field, take_needed};
 use std::alloc::Global;
 
 const ID: u64 = 16;
@@ -28,30 +27,38 @@ impl Form<Reported> for ReportedMap {
 
     ghost written = { Written.reported };
 
+    #[tactic(auto, using(item_codec::proofs::Public::Forms::form_reads))]
     fn read(alloc: Global, item: &Item) -> Result<Reported, FormFault> {
-        match item.as_map() {
-            Some(pairs) => read_reported(alloc, pairs),
-            None => Err(FormFault::Shape),
-        }
+        read_reported(alloc, item)
     }
 
     fn write(alloc: Global, value: &Reported) -> OrMemory<Item> {
         let pairs = List::new(alloc);
-        let pairs = put_needed::<_, Id>(alloc, pairs, ID, &value.id)?;
-        let pairs = put_needed::<_, Unsigned>(alloc, pairs, SEQUENCE, &value.sequence)?;
+        let pairs = put_needed_row::<_, Unsigned>(alloc, pairs, SEQUENCE, &value.sequence)?;
+        let pairs = put_needed_row::<_, Id>(alloc, pairs, ID, &value.id)?;
         Ok(Item::Map(pairs))
     }
 }
 
-fn read_reported(alloc: Global, pairs: &[Pair]) -> Result<Reported, FormFault>
-    ensures { Reads (Rows.reported_in pairs.now) result }
+fn read_reported(alloc: Global, item: &Item) -> Result<Reported, FormFault>
+    ensures { Answers FormFault.NoMemory (in_map FormFault.Shape Forms.reported_in item.now) result }
 {
-    if !has_keys_among(&[ID, SEQUENCE], pairs) {
-        return Err(FormFault::Shape);
+    match item.as_map() {
+        Some(pairs) => read_reported_pairs(alloc, pairs),
+        None => Err(FormFault::Shape),
     }
-    let id = read_needed::<_, Id>(alloc, pairs, ID)?;
-    let sequence = read_needed::<_, Unsigned>(alloc, pairs, SEQUENCE)?;
-    Ok(Reported { id, sequence })
+}
+
+fn read_reported_pairs(alloc: Global, pairs: &[Pair]) -> Result<Reported, FormFault>
+    ensures { Answers FormFault.NoMemory (Forms.reported_in pairs.now) result }
+{
+    let shape = FormFault::Shape;
+    let (id, pairs) = take_needed::<_, _, Id>(alloc, pairs, ID, shape, shape)?;
+    let (sequence, pairs) = take_needed::<_, _, Unsigned>(alloc, pairs, SEQUENCE, shape, shape)?;
+    match pairs {
+        [] => Ok(Reported { id, sequence }),
+        _ => Err(FormFault::Shape),
+    }
 }
 
 /// A map `{16: id}`, with 17 and 18 where wanted.
@@ -62,32 +69,40 @@ impl Form<Requested> for RequestedMap {
 
     ghost written = { Written.requested };
 
+    #[tactic(auto, using(item_codec::proofs::Public::Forms::form_reads))]
     fn read(alloc: Global, item: &Item) -> Result<Requested, FormFault> {
-        match item.as_map() {
-            Some(pairs) => read_requested(alloc, pairs),
-            None => Err(FormFault::Shape),
-        }
+        read_requested(alloc, item)
     }
 
     fn write(alloc: Global, value: &Requested) -> OrMemory<Item> {
         let pairs = List::new(alloc);
-        let pairs = put_needed::<_, Id>(alloc, pairs, ID, &value.id)?;
-        let pairs = put_field::<_, Unsigned>(alloc, pairs, SEQUENCE, &value.sequence)?;
-        let pairs = put_field::<_, Truth>(alloc, pairs, FLAG, &value.flag)?;
+        let pairs = put_row::<_, Truth>(alloc, pairs, FLAG, &value.flag)?;
+        let pairs = put_row::<_, Unsigned>(alloc, pairs, SEQUENCE, &value.sequence)?;
+        let pairs = put_needed_row::<_, Id>(alloc, pairs, ID, &value.id)?;
         Ok(Item::Map(pairs))
     }
 }
 
-fn read_requested(alloc: Global, pairs: &[Pair]) -> Result<Requested, FormFault>
-    ensures { Reads (Rows.requested_in pairs.now) result }
+fn read_requested(alloc: Global, item: &Item) -> Result<Requested, FormFault>
+    ensures { Answers FormFault.NoMemory (in_map FormFault.Shape Forms.requested_in item.now) result }
 {
-    if !has_keys_among(&[ID, SEQUENCE, FLAG], pairs) {
-        return Err(FormFault::Shape);
+    match item.as_map() {
+        Some(pairs) => read_requested_pairs(alloc, pairs),
+        None => Err(FormFault::Shape),
     }
-    let id = read_needed::<_, Id>(alloc, pairs, ID)?;
-    let sequence = read_field::<_, Unsigned>(alloc, pairs, SEQUENCE)?;
-    let flag = read_field::<_, Truth>(alloc, pairs, FLAG)?;
-    Ok(Requested { id, sequence, flag })
+}
+
+fn read_requested_pairs(alloc: Global, pairs: &[Pair]) -> Result<Requested, FormFault>
+    ensures { Answers FormFault.NoMemory (Forms.requested_in pairs.now) result }
+{
+    let shape = FormFault::Shape;
+    let (id, pairs) = take_needed::<_, _, Id>(alloc, pairs, ID, shape, shape)?;
+    let (sequence, pairs) = take_field::<_, _, Unsigned>(alloc, pairs, SEQUENCE, shape)?;
+    let (flag, pairs) = take_field::<_, _, Truth>(alloc, pairs, FLAG, shape)?;
+    match pairs {
+        [] => Ok(Requested { id, sequence, flag }),
+        _ => Err(FormFault::Shape),
+    }
 }
 
 /// An array `[tag, alg]`.
@@ -98,11 +113,9 @@ impl Form<Operation> for OperationPair {
 
     ghost written = { Written.operation };
 
+    #[tactic(auto, using(item_codec::proofs::Public::Forms::form_reads))]
     fn read(alloc: Global, item: &Item) -> Result<Operation, FormFault> {
-        match item.as_array() {
-            Some(members) => read_operation(alloc, members),
-            None => Err(FormFault::Shape),
-        }
+        read_operation(alloc, item)
     }
 
     fn write(alloc: Global, value: &Operation) -> OrMemory<Item> {
@@ -113,13 +126,13 @@ impl Form<Operation> for OperationPair {
     }
 }
 
-fn read_operation(alloc: Global, members: &[Item]) -> Result<Operation, FormFault>
-    ensures { Reads (Rows.operation_in members.now) result }
+fn read_operation(alloc: Global, item: &Item) -> Result<Operation, FormFault>
+    ensures { Answers FormFault.NoMemory (in_array FormFault.Shape Forms.operation_in item.now) result }
 {
-    let [tag, alg] = members else {
+    let Some([tag, alg]) = item.as_array() else {
         return Err(FormFault::Shape);
     };
-    let tag = Unsigned::read(alloc, tag)?;
+    let tag = read_part::<_, _, Unsigned>(alloc, tag, FormFault::Shape)?;
     let alg = alg.try_clone(alloc)?;
     Ok(Operation { tag, alg })
 }
@@ -132,11 +145,9 @@ impl Form<List<Item>> for ProfileArray {
 
     ghost written = { Written.profile };
 
+    #[tactic(auto, using(item_codec::proofs::Public::Forms::form_reads))]
     fn read(alloc: Global, item: &Item) -> Result<List<Item>, FormFault> {
-        match item.as_array() {
-            Some(members) => read_profile(alloc, members),
-            None => Err(FormFault::Shape),
-        }
+        read_profile(alloc, item)
     }
 
     fn write(alloc: Global, members: &List<Item>) -> OrMemory<Item> {
@@ -144,11 +155,11 @@ impl Form<List<Item>> for ProfileArray {
     }
 }
 
-fn read_profile(alloc: Global, members: &[Item]) -> Result<List<Item>, FormFault>
-    ensures { Reads (Rows.unless_empty members.now) result }
+fn read_profile(alloc: Global, item: &Item) -> Result<List<Item>, FormFault>
+    ensures { Answers FormFault.NoMemory (in_array FormFault.Shape Forms.profile_in item.now) result }
 {
-    if members.is_empty() {
-        return Err(FormFault::Shape);
+    match item.as_array() {
+        None | Some([]) => Err(FormFault::Shape),
+        Some(members) => Ok(copy_items(alloc, members)?),
     }
-    Ok(copy_items(alloc, members)?)
 }

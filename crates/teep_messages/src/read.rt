@@ -1,8 +1,10 @@
-ghost use Rattle.std.specs.Prelude.{◌≡◌, ◌⊎◌, [], ◌∷◌, IfOk, Err};
+ghost use Rattle.std.specs.Prelude.{◌≡◌, ◌⊎◌, IfOk, Ok, Err};
+ghost use Rattle.item_codec.specs.Answers.{Answers, IsAnswer};
+ghost use Rattle.item_codec.specs.Fields.{shaped};
+ghost use Rattle.item_codec.specs.Whole.{BytesAnswer};
 ghost use Rattle.teep_messages.specs.declared.message.Message.{Message};
 ghost use Rattle.teep_messages.specs.declared.fault.MessageFault.{MessageFault};
-ghost use Rattle.teep_messages.specs.Messages.{number_of, PartsAre, ItemIs, MessageIs, RefusedAs, wrong_question, wrong_four, wrong_plain, wrong_error, wrong_two, wrong_parts, wrong_item, PlainIs, IsQuestion, IsError};
-ghost use Rattle.teep_messages.specs.Reading.{Judges, IsFound, IsRefused};
+ghost use Rattle.teep_messages.specs.Messages.{MessageIs, RefusedAs, message_of, parts_in, question_in, question_of, plain_in, error_in, error_of};
 
 use crate::fault::MessageFault;
 use crate::forms::{OperationPair, ProfileArray};
@@ -11,9 +13,10 @@ use crate::labels::{
 };
 use crate::message::Message;
 use crate::options::Options;
-use crate::read_options::{read_options, read_part};
-use cbor_core::{Item, decode_whole};
-use cbor_fields::{ListOf, Unsigned};
+use crate::read_options::read_options;
+use cbor_core::{CborFault, Item, decode_whole};
+use cbor_fields::{Form, ListOf, Unsigned};
+use item_codec::read_part;
 use std::alloc::Global;
 
 impl Message {
@@ -29,20 +32,30 @@ impl Message {
         // The bytes are the message that is read.
         ensures found { IfOk result (λ message. MessageIs message bytes.now) }
         // The message that the bytes are is read, unless memory runs out.
-        ensures only { (message : Message) → MessageIs message bytes.now → IsFound result message }
+        ensures only { (message : Message) → MessageIs message bytes.now → IsAnswer MessageFault.NoMemory result (Ok message) }
         // A refusal but NoMemory is the one that comes first.
         ensures bad { (fault : MessageFault) → result ≡ Err fault → (fault ≡ MessageFault.NoMemory) ⊎ RefusedAs bytes.now fault }
         // The refusal that comes first is the answer, unless memory runs out.
-        ensures refused { (fault : MessageFault) → RefusedAs bytes.now fault → IsRefused result fault }
+        ensures refused { (fault : MessageFault) → RefusedAs bytes.now fault → IsAnswer MessageFault.NoMemory result (Err fault) }
     {
-        let item = decode_whole(alloc, bytes)?;
-        read_item(alloc, &item)
+        read_bytes(alloc, bytes)
+    }
+}
+
+/// The message that bytes are.
+fn read_bytes(alloc: Global, bytes: &[u8]) -> Result<Message, MessageFault>
+    ensures { BytesAnswer MessageFault.NoMemory (λ f. MessageFault.Cbor f) message_of bytes.now result }
+{
+    match decode_whole(alloc, bytes) {
+        Ok(item) => read_item(alloc, &item),
+        Err(CborFault::Bad(fault)) => Err(MessageFault::Cbor(fault)),
+        Err(CborFault::NoMemory) => Err(MessageFault::NoMemory),
     }
 }
 
 /// The message that an item is.
 fn read_item(alloc: Global, item: &Item) -> Result<Message, MessageFault>
-    ensures { Judges (wrong_item item.now) (ItemIs item.now) result }
+    ensures { Answers MessageFault.NoMemory (message_of item.now) result }
 {
     let Some([kind, parts @ ..]) = item.as_array() else {
         return Err(MessageFault::Shape { field: MESSAGE });
@@ -53,9 +66,20 @@ fn read_item(alloc: Global, item: &Item) -> Result<Message, MessageFault>
     }
 }
 
+/// The value of a part that has the form, or `Shape` with the part's number.
+fn read_shaped<V: Drop, F: Form<V>>(
+    alloc: Global,
+    item: &Item,
+    number: u64,
+) -> Result<V, MessageFault>
+    ensures { Answers MessageFault.NoMemory (shaped (MessageFault.Shape number) F.view item.now) result }
+{
+    read_part::<V, MessageFault, F>(alloc, item, MessageFault::Shape { field: number })
+}
+
 /// The message of a kind with these parts.
 fn read_parts(alloc: Global, kind: u64, parts: &[Item]) -> Result<Message, MessageFault>
-    ensures { Judges (wrong_parts kind parts.now) (λ message. (number_of message ≡ kind) × PartsAre parts.now message) result }
+    ensures { Answers MessageFault.NoMemory (parts_in kind parts.now) result }
 {
     match kind {
         QUERY_REQUEST => read_question(alloc, parts),
@@ -75,7 +99,7 @@ fn read_parts(alloc: Global, kind: u64, parts: &[Item]) -> Result<Message, Messa
 
 /// The question with these parts.
 fn read_question(alloc: Global, parts: &[Item]) -> Result<Message, MessageFault>
-    ensures { Judges (wrong_question parts.now) (IsQuestion parts.now) result }
+    ensures { Answers MessageFault.NoMemory (question_in parts.now) result }
 {
     match parts {
         [options, suites, profiles, items] => { read_four(alloc, options, suites, profiles, items) }
@@ -91,12 +115,12 @@ fn read_four(
     profiles: &Item,
     items: &Item,
 ) -> Result<Message, MessageFault>
-    ensures { Judges (wrong_four options.now suites.now profiles.now items.now) (IsQuestion (options.now ∷ suites.now ∷ profiles.now ∷ items.now ∷ [])) result }
+    ensures { Answers MessageFault.NoMemory (question_of options.now suites.now profiles.now items.now) result }
 {
     let options = read_options(alloc, options)?;
-    let suites = read_part::<_, ListOf<ListOf<OperationPair>>>(alloc, suites, SUITES)?;
-    let profiles = read_part::<_, ListOf<ProfileArray>>(alloc, profiles, PROFILES)?;
-    let items = read_part::<_, Unsigned>(alloc, items, ITEMS)?;
+    let suites = read_shaped::<_, ListOf<ListOf<OperationPair>>>(alloc, suites, SUITES)?;
+    let profiles = read_shaped::<_, ListOf<ProfileArray>>(alloc, profiles, PROFILES)?;
+    let items = read_shaped::<_, Unsigned>(alloc, items, ITEMS)?;
     Ok(Message::QueryRequest {
         options,
         suites,
@@ -107,7 +131,7 @@ fn read_four(
 
 /// The options of a kind that has nothing else.
 fn read_plain(alloc: Global, parts: &[Item]) -> Result<Options, MessageFault>
-    ensures { Judges (wrong_plain parts.now) (PlainIs parts.now) result }
+    ensures { Answers MessageFault.NoMemory (plain_in parts.now) result }
 {
     match parts {
         [options] => read_options(alloc, options),
@@ -117,7 +141,7 @@ fn read_plain(alloc: Global, parts: &[Item]) -> Result<Options, MessageFault>
 
 /// The error with these parts.
 fn read_error(alloc: Global, parts: &[Item]) -> Result<Message, MessageFault>
-    ensures { Judges (wrong_error parts.now) (IsError parts.now) result }
+    ensures { Answers MessageFault.NoMemory (error_in parts.now) result }
 {
     match parts {
         [options, code] => read_two(alloc, options, code),
@@ -127,9 +151,9 @@ fn read_error(alloc: Global, parts: &[Item]) -> Result<Message, MessageFault>
 
 /// The error with these two parts.
 fn read_two(alloc: Global, options: &Item, code: &Item) -> Result<Message, MessageFault>
-    ensures { Judges (wrong_two options.now code.now) (IsError (options.now ∷ code.now ∷ [])) result }
+    ensures { Answers MessageFault.NoMemory (error_of options.now code.now) result }
 {
     let options = read_options(alloc, options)?;
-    let code = read_part::<_, Unsigned>(alloc, code, CODE)?;
+    let code = read_shaped::<_, Unsigned>(alloc, code, CODE)?;
     Ok(Message::Error { options, code })
 }

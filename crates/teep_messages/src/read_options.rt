@@ -1,8 +1,7 @@
-ghost use Rattle.std.specs.Prelude.{◌≡◌, Some};
-ghost use Rattle.cbor_core.specs.Views.{bytes_of, map_of};
-ghost use Rattle.cbor_fields.specs.Views.{field_of};
-ghost use Rattle.teep_messages.specs.Options.{misshapen, missized, wrong_options, wrong_map, IsSized, OptionsAre, OptionsIs};
-ghost use Rattle.teep_messages.specs.Reading.{Judges};
+ghost use Rattle.cbor_core.specs.Views.{field};
+ghost use Rattle.item_codec.specs.Answers.{Answers};
+ghost use Rattle.item_codec.specs.Fields.{optional_at, shaped, sized};
+ghost use Rattle.teep_messages.specs.Options.{options_in, options_of};
 
 use crate::fault::MessageFault;
 use crate::forms::{ReportedMap, RequestedMap};
@@ -13,25 +12,9 @@ use crate::labels::{
 use crate::options::Options;
 use base_types::{CHALLENGE_LEAST, CHALLENGE_LIMIT, Octets, TOKEN_LEAST, TOKEN_LIMIT};
 use cbor_core::{Item, Pair};
-use cbor_fields::{
-    ByteString, Form, FormFault, Id, ListOf, TextString, Unsigned, other_pairs, read_field,
-};
+use cbor_fields::{ByteString, Form, Id, ListOf, TextString, Unsigned, other_pairs};
+use item_codec::{read_known, read_known_sized};
 use std::alloc::Global;
-
-/// The value of a part that has the form, or `Shape` with the part's number.
-pub fn read_part<V: Drop, F: Form<V>>(
-    alloc: Global,
-    item: &Item,
-    number: u64,
-) -> Result<V, MessageFault>
-    ensures { Judges (misshapen number (F.view item.now)) (λ value. F.view item.now ≡ Some value) result }
-{
-    match F::read(alloc, item) {
-        Ok(value) => Ok(value),
-        Err(FormFault::Shape) => Err(MessageFault::Shape { field: number }),
-        Err(FormFault::NoMemory) => Err(MessageFault::NoMemory),
-    }
-}
 
 /// The option under a label, where it is there, or `Shape` with the label.
 fn read_option<V: Drop, F: Form<V>>(
@@ -39,13 +22,9 @@ fn read_option<V: Drop, F: Form<V>>(
     pairs: &[Pair],
     label: u64,
 ) -> Result<Option<V>, MessageFault>
-    ensures { Judges (misshapen label (field_of F.view label pairs.now)) (λ value. field_of F.view label pairs.now ≡ Some value) result }
+    ensures { Answers MessageFault.NoMemory (optional_at (shaped (MessageFault.Shape label) F.view) (field label pairs.now)) result }
 {
-    match read_field::<V, F>(alloc, pairs, label) {
-        Ok(value) => Ok(value),
-        Err(FormFault::Shape) => Err(MessageFault::Shape { field: label }),
-        Err(FormFault::NoMemory) => Err(MessageFault::NoMemory),
-    }
+    read_known::<V, MessageFault, F>(alloc, pairs, label, MessageFault::Shape { field: label })
 }
 
 /// The byte string under a label, where it is there, or `Shape` and then `Size` with the label.
@@ -56,25 +35,23 @@ fn read_sized(
     least: usize,
     most: usize,
 ) -> Result<Option<Octets>, MessageFault>
-    ensures { Judges (missized label least most (field_of bytes_of label pairs.now)) (λ value. (field_of bytes_of label pairs.now ≡ Some value) × IsSized least most value) result }
+    ensures { Answers MessageFault.NoMemory (optional_at (sized least most (MessageFault.Shape label) (MessageFault.Size label)) (field label pairs.now)) result }
 {
-    match read_field::<Octets, ByteString>(alloc, pairs, label) {
-        Ok(Some(bytes)) => {
-            if least <= bytes.len() && bytes.len() <= most {
-                Ok(Some(bytes))
-            } else {
-                Err(MessageFault::Size { field: label })
-            }
-        }
-        Ok(None) => Ok(None),
-        Err(FormFault::Shape) => Err(MessageFault::Shape { field: label }),
-        Err(FormFault::NoMemory) => Err(MessageFault::NoMemory),
-    }
+    let shape = MessageFault::Shape { field: label };
+    read_known_sized(
+        alloc,
+        pairs,
+        label,
+        least,
+        most,
+        shape,
+        MessageFault::Size { field: label },
+    )
 }
 
 /// The options of a map's pairs.
 fn read_pairs(alloc: Global, pairs: &[Pair]) -> Result<Options, MessageFault>
-    ensures { Judges (wrong_options pairs.now) (OptionsAre pairs.now) result }
+    ensures { Answers MessageFault.NoMemory (options_in pairs.now) result }
 {
     let challenge = read_sized(alloc, pairs, CHALLENGE, CHALLENGE_LEAST, CHALLENGE_LIMIT)?;
     let versions = read_option::<_, ListOf<Unsigned>>(alloc, pairs, VERSIONS)?;
@@ -108,7 +85,7 @@ fn read_pairs(alloc: Global, pairs: &[Pair]) -> Result<Options, MessageFault>
 
 /// The options of an item, or `Shape` with 101 where it is no map.
 pub fn read_options(alloc: Global, item: &Item) -> Result<Options, MessageFault>
-    ensures { Judges (wrong_map (map_of item.now)) (OptionsIs item.now) result }
+    ensures { Answers MessageFault.NoMemory (options_of item.now) result }
 {
     match item.as_map() {
         Some(pairs) => read_pairs(alloc, pairs),

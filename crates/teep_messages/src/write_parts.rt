@@ -1,4 +1,5 @@
 ghost use Rattle.std.specs.Prelude.{◌≡◌, IfOk};
+ghost use Rattle.cbor_core.specs.declared.item.Item.TheVariants as i;
 ghost use Rattle.teep_messages.specs.Written as Written;
 
 use crate::forms::{OperationPair, ProfileArray};
@@ -38,7 +39,7 @@ fn write_question(
     profiles: &List<Profile>,
     items: u64,
 ) -> OrMemory<Item>
-    ensures { IfOk result (λ x. x ≡ Written.question options.now suites.now profiles.now items) }
+    ensures { IfOk result (λ x. x ≡ i.Array (Written.question options.now suites.now profiles.now items)) }
 {
     let mut members = List::new(alloc);
     members.push(Item::Unsigned(QUERY_REQUEST))?;
@@ -51,7 +52,7 @@ fn write_question(
 
 /// The item of a kind that has nothing but options.
 fn write_plain(alloc: Global, kind: u64, options: &Options) -> OrMemory<Item>
-    ensures { IfOk result (λ x. x ≡ Written.plain kind options.now) }
+    ensures { IfOk result (λ x. x ≡ i.Array (Written.plain kind options.now)) }
 {
     let mut members = List::new(alloc);
     members.push(Item::Unsigned(kind))?;
@@ -61,7 +62,7 @@ fn write_plain(alloc: Global, kind: u64, options: &Options) -> OrMemory<Item>
 
 /// The item of an error.
 fn write_error(alloc: Global, options: &Options, code: u64) -> OrMemory<Item>
-    ensures { IfOk result (λ x. x ≡ Written.failure options.now code) }
+    ensures { IfOk result (λ x. x ≡ i.Array (Written.failure options.now code)) }
 {
     let mut members = List::new(alloc);
     members.push(Item::Unsigned(ERROR))?;
