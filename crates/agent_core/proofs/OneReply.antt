@@ -3,9 +3,7 @@ use Rattle.std.proofs.Common.{◌≡◌, ◌⊎◌, List, [], ◌∷◌, ℕ, re
 use Rattle.std.specs.Prelude.{Option, Some, None}
 use Rattle.teep_messages.specs.declared.message.Message.{Message as TeepMessage}
 use Rattle.teep_messages.specs.declared.message.Message.TheVariants as kinds
-use Rattle.teep_messages.proofs.Exact.{one_message}
-use Rattle.item_codec.proofs.Public.Whole.{not_both}
-use Rattle.item_codec.proofs.Public.Whole.{one_spelling}
+use Rattle.teep_messages.proofs.Public.Messages.{one_message, not_both, one_spelling}
 use Rattle.frames.specs.Frames.{Frame}
 use Rattle.cose_core.specs.declared.sign1.Sign1.{Sign1}
 use Rattle.trust_anchors.specs.declared.anchors.Anchors.{Anchors}

@@ -5,7 +5,7 @@ use Rattle.std.proofs.lemmas.List.{take_all, append-nil}
 use Rattle.base_types.specs.Bytes.{IsBytes}
 use Rattle.cbor_core.specs.declared.item.Item.{Item}
 use Rattle.cbor_heads.specs.declared.fault.Fault.{Fault}
-use Rattle.cbor_core.specs.declared.fault.Why.TheVariants as why
+use Rattle.cbor_heads.specs.declared.fault.Why.TheVariants as why
 use Rattle.cbor_core.specs.Spelling.{Spells}
 use Rattle.cbor_core.specs.Law.{OneItem, OneFault, SpellsFront, IsFaultyWhole, HasExtra}
 use Rattle.cbor_heads.specs.Place.{Place, start}

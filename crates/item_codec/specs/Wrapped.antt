@@ -4,6 +4,7 @@ use Rattle.base_types.specs.declared.limits.TheConstants.{CBOR_DEPTH_LIMIT}
 use Rattle.cbor_core.specs.declared.item.Item.{Item}
 use Rattle.cbor_core.specs.declared.item.Item.TheVariants as i
 use Rattle.cbor_heads.specs.Place.{start}
+use Rattle.cbor_heads.specs.declared.fault.Fault.{Fault}
 use Rattle.cbor_core.specs.Reading.{item_at}
 use Rattle.cbor_heads.specs.Reading.{Outcome}
 use Rattle.cbor_core.specs.Spelling.{spelling}
@@ -17,7 +18,7 @@ alone x [] = Some x
 alone x (byte ∷ bytes) = None
 
 -- an item that was read to the end
-abbrev pub read_whole : Outcome Item → Option Item
+abbrev pub read_whole : Outcome Fault Item → Option Item
 read_whole (Ok x) = alone x.0 x.1.rest
 read_whole (Err fault) = None
 

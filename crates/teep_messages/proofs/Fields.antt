@@ -20,7 +20,8 @@ use Rattle.teep_messages.specs.declared.fault.MessageFault.TheVariants.{Shape, S
 use Rattle.teep_messages.specs.declared.options.Options.{Options}
 use Rattle.teep_messages.specs.Forms.{reported_of, requested_of}
 use Rattle.teep_messages.specs.Options.{labels, options_in, options_of}
-use Rattle.teep_messages.specs.Proper.{IsIdentifier, AreProperOptions}
+use Rattle.cbor_fields.specs.Views.{IsIdentifier}
+use Rattle.teep_messages.specs.Proper.{AreProperOptions}
 use Rattle.teep_messages.specs.Written.{unsigned, bytes, text, array, reported, requested, option_pairs, options_item}
 use Rattle.teep_messages.proofs.Values.{id_exact, reported_exact, requested_exact}
 

@@ -20,7 +20,8 @@ use Rattle.teep_messages.specs.declared.requested.Requested.{Requested}
 use Rattle.teep_messages.specs.declared.operation.Operation.{Operation}
 use Rattle.teep_messages.specs.Forms.{reported_in, reported_of, requested_in, requested_of, operation_in, operation_of, suite_of, profile_in, profile_of}
 use Rattle.teep_messages.specs.Written.{unsigned, reported_rows, reported, requested_rows, requested, operation_members, operation, suite, profile}
-use Rattle.teep_messages.specs.Proper.{IsIdentifier, HasAlgorithm}
+use Rattle.cbor_fields.specs.Views.{IsIdentifier}
+use Rattle.teep_messages.specs.Proper.{HasAlgorithm}
 
 told : Shape ≡ NoMemory → ⊥
 told e = cc

@@ -3,17 +3,13 @@ use Rattle.std.specs.Prelude.{ℕ, ◌≡◌, true, List, [], ◌∷◌, IfSome}
 use Rattle.std.specs.List.{AllByRecursion}
 use Rattle.base_types.specs.declared.limits.TheConstants.{CHALLENGE_LEAST, CHALLENGE_LIMIT, TOKEN_LEAST, TOKEN_LIMIT}
 use Rattle.cbor_core.specs.declared.item.Item.{Item}
-use Rattle.cbor_core.specs.Spelling.{Spells, IsProper}
-use Rattle.cbor_fields.specs.Views.{is_id, is_other}
+use Rattle.cbor_core.specs.Spelling.{IsProper}
+use Rattle.cbor_fields.specs.Views.{IsIdentifier, is_other}
 use Rattle.teep_messages.specs.declared.options.Options.{Options}
 use Rattle.teep_messages.specs.declared.message.Message.{Message}
 use Rattle.teep_messages.specs.declared.message.Message.TheVariants.{QueryRequest, QueryResponse, Update, Success, Error}
 use Rattle.teep_messages.specs.Options.{IsSized, labels}
 use Rattle.teep_messages.specs.Written.{written}
-
--- the encoding of an identifier: an array of one or more byte strings (draft-ietf-teep-protocol, ids of components)
-abbrev pub IsIdentifier : List ℕ → Type 0
-IsIdentifier bytes = (x : Item) × Spells x bytes × (is_id x ≡ true)
 
 -- byte strings have their sizes, identifiers are such, and what is kept of other labels has no label of the table
 pub record AreProperOptions (v : Options) : Type 0 where

@@ -1,22 +1,15 @@
--- Bytes spell one item or have a fault, and not both; and which item they are read as.
+-- Which item bytes are read as.
 use Rattle.std.proofs.Common.{◌≡◌, ℕ, List, [], ◌∷◌, length, drop, Some, None, refl, sym, ap, subst, ◌∙◌, inl, inr, arith}
 use Rattle.std.specs.Prelude.{Ok, Err}
-use Rattle.std.proofs.lemmas.Bool.{cases_lt}
-use Rattle.std.proofs.lemmas.List.{append-nil, drop_all, drop_more, take_all}
+use Rattle.std.proofs.lemmas.List.{drop_all, drop_more}
 use Rattle.cbor_core.specs.declared.item.Item.{Item}
 use Rattle.cbor_heads.specs.declared.fault.Fault.{Fault}
-use Rattle.cbor_core.specs.declared.fault.Why.TheVariants as why
-use Rattle.cbor_heads.specs.Place.{start}
 use Rattle.cbor_core.specs.Spelling.{Spells}
 use Rattle.base_types.specs.Bytes.{IsBytes}
-use Rattle.cbor_core.specs.Law.{SpellsFront, IsFaultyWhole, OneItem}
-use Rattle.cbor_core.proofs.Inputs.{exactly_one, one_for_one, reads, spelled_in_front}
-use Rattle.cbor_core.proofs.Refused.{item_refuses}
+use Rattle.cbor_core.specs.Law.{SpellsFront, IsFaultyWhole}
+use Rattle.cbor_core.proofs.Public.Whole.{exactly_one_whole, one_for_one, reads, refuses, whole_front}
 use Rattle.cbor_core.specs.Views.{bytes_of}
 use Rattle.item_codec.specs.Wrapped.{alone, read_whole, item_in, unwrapped}
-
-pub whole_front : (bytes : List ℕ) (x : Item) → Spells x bytes → SpellsFront bytes x (length bytes)
-whole_front bytes x s = subst (λ (t : List ℕ). SpellsFront t x (length bytes)) (append-nil bytes) (spelled_in_front x bytes [] s)
 
 pub one_item : (bytes : List ℕ) (x y : Item) → Spells x bytes → Spells y bytes → x ≡ y
 one_item bytes x y s t = one_for_one.one_item x y bytes s t
@@ -38,28 +31,18 @@ item_is bytes x s = front_in bytes x (length bytes) (whole_front bytes x s) ∙ 
 -- bytes with a fault are read as none
 pub item_none : (bytes : List ℕ) (f : Fault) → IsFaultyWhole bytes f → item_in bytes ≡ None
 unfolding item_in
-item_none bytes f (inl faulty) = ap read_whole (item_refuses 16 (start bytes) f faulty)
+item_none bytes f (inl faulty) = ap read_whole (refuses bytes f faulty)
 item_none bytes f (inr extra) = front_in bytes extra.item f.at extra.front ∙ ap (alone extra.item) (drop_more bytes f.at 0 extra.more)
-
--- an item and a fault do not go together
-pub no_fault : (bytes : List ℕ) (x : Item) (f : Fault) → Spells x bytes → IsFaultyWhole bytes f → ⊥
-no_fault bytes x f s faulty = let both : Some x ≡ None = sym (item_is bytes x s) ∙ item_none bytes f faulty in cc
 
 -- what is read of bytes spells them
 pub item_spells : (bytes : List ℕ) (x : Item) → IsBytes bytes → item_in bytes ≡ Some x → Spells x bytes
-item_spells bytes x are e = elim (exactly_one bytes are) [
-  | inl one ↦ by_item one
-  | inr none ↦ absurd (let both : Some x ≡ None = sym e ∙ item_none bytes none.first (inl none.faulty) in cc)
-] where
-  by_item : OneItem bytes → Spells x bytes
-  by_item one = elim (cases_lt one.count (length bytes)) [
-    | inl more ↦ absurd (let both : Some x ≡ None = sym e ∙ item_none bytes (record { at = one.count; why = why.Extra }) (inr (record { item = one.item; front = one.spelled; more = more; why = refl })) in cc)
-    | inr all ↦
-        let s : Spells one.item bytes = subst (λ (t : List ℕ). Spells one.item t) (take_all one.count bytes all) one.spelled.1 in
-        let same : Some one.item ≡ Some x = sym (item_is bytes one.item s) ∙ e in
-        let is : one.item ≡ x = cc in
-        subst (λ (y : Item). Spells y bytes) is s
-  ]
+item_spells bytes x are e = elim (exactly_one_whole bytes are) [
+  | inl one ↦
+      let same : Some one.item ≡ Some x = sym (item_is bytes one.item one.spelled) ∙ e in
+      let is : one.item ≡ x = cc in
+      subst (λ (y : Item). Spells y bytes) is one.spelled
+  | inr none ↦ absurd (let both : Some x ≡ None = sym e ∙ item_none bytes none.first none.faulty in cc)
+]
 
 -- ---- byte strings
 

@@ -1,21 +1,18 @@
 -- Bytes give exactly one answer; and which bytes are which value, by the record of a codec.
 use Rattle.std.proofs.Common.{◌≡◌, ◌⊎◌, ℕ, List, length, refl, sym, ap, subst, ◌∙◌, inl, inr, arith}
 use Rattle.std.specs.Prelude.{Result, Ok, Err, IfOk}
-use Rattle.std.proofs.lemmas.Bool.{cases_lt}
-use Rattle.std.proofs.lemmas.List.{take_all}
 use Rattle.base_types.specs.declared.memory.NoMemory.{NoMemory}
 use Rattle.cbor_core.specs.declared.item.Item.{Item}
 use Rattle.cbor_heads.specs.declared.fault.Fault.{Fault}
-use Rattle.cbor_core.specs.declared.fault.Why.TheVariants as why
 use Rattle.cbor_core.specs.Spelling.{Spells, spelling, IsProper, HasRanges}
 use Rattle.base_types.specs.Bytes.{IsBytes}
-use Rattle.cbor_core.specs.Law.{OneItem, OneFault, IsFaultyWhole, HasExtra}
-use Rattle.cbor_core.proofs.Inputs.{exactly_one}
+use Rattle.cbor_core.specs.Law.{IsFaultyWhole}
+use Rattle.cbor_core.proofs.Public.Whole.{exactly_one_whole, no_fault}
 use Rattle.cbor_fields.specs.Written.{IsSpelled}
 use Rattle.item_codec.specs.Answers.{Answers, IsAnswer, IsSettled}
 use Rattle.item_codec.specs.Part.{Part}
 use Rattle.item_codec.specs.Whole.{HasValue, HasRefusal, BytesGive, BytesAnswer, OneAnswer, IsWrittenAs}
-use Rattle.item_codec.proofs.Public.Decoded.{whole_front, one_item, no_fault}
+use Rattle.item_codec.proofs.Public.Decoded.{one_item}
 
 -- ---- one value at most, and none beside a refusal
 
@@ -57,24 +54,8 @@ module _ {V E : Type 0} (none : E) (cbor : Fault → E) (told : (f : Fault) → 
   refused : (f : Fault) → IsFaultyWhole bytes f → ((x : Item) → Spells x bytes → ⊥) → ((g : Fault) → IsFaultyWhole bytes g → g ≡ f) → OneAnswer none cbor view bytes
   refused f faulty no_item same = record { answer = Err (cbor f); given = inl (record { fault = f; faulty = faulty; is = refl }); alone = alone_fault f no_item same; settled = told f }
 
-  extra_is : (one : OneItem bytes) (f : Fault) → HasExtra bytes f → f ≡ record { at = one.count; why = why.Extra }
-  extra_is one f extra = let e = one.alone extra.item f.at extra.front in rw (← e.1, ← extra.why) refl
-
-  by_item : OneItem bytes → OneAnswer none cbor view bytes
-  by_item one = elim (cases_lt one.count (length bytes)) [
-    | inl more ↦ refused (record { at = one.count; why = why.Extra }) (inr (record { item = one.item; front = one.spelled; more = more; why = refl }))
-        (λ x s. (let front = whole_front bytes x s in let e : length bytes ≡ one.count = (one.alone x (length bytes) front).1 in absurd (omega arith)))
-        (λ g h. elim h [ inl faulty ↦ absurd (one.no_fault g faulty) | inr extra ↦ extra_is one g extra ])
-    | inr all ↦ answered one.item (subst (λ (t : List ℕ). Spells one.item t) (take_all one.count bytes all) one.spelled.1)
-  ]
-
-  by_none : OneFault bytes → OneAnswer none cbor view bytes
-  by_none one = refused one.first (inl one.faulty)
-      (λ x s. (let front = whole_front bytes x s in one.no_item x (length bytes) front))
-      (λ g h. elim h [ inl faulty ↦ one.alone g faulty | inr extra ↦ absurd (one.no_item extra.item g.at extra.front) ])
-
   pub one_answer : IsBytes bytes → OneAnswer none cbor view bytes
-  one_answer are = elim (exactly_one bytes are) [ inl one ↦ by_item one | inr one ↦ by_none one ]
+  one_answer are = elim (exactly_one_whole bytes are) [ inl one ↦ answered one.item one.spelled | inr one ↦ refused one.first one.faulty one.no_item one.alone ]
 
 -- ---- what a reader of bytes answers
 
