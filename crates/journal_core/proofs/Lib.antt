@@ -7,3 +7,4 @@ mod Halves
 mod Changes
 mod OneList
 mod Placed
+mod Elsewhere

@@ -60,7 +60,7 @@ module _ (told : Type 0) (start : Kept) (old : View) (inside : IsWithin start.re
     at_first : (tells : told) (gate : _) → GateIs room (behind journal mid.now.disk.bytes) gate → GateIs room (behind journal old.now.disk.bytes) gate
     at_first tells gate is = subst (λ (d : Disk). GateIs room (behind journal d.bytes) gate) ((going.same tells).disk) is
 
-    pub going_on : {new : View} {gate : _} (next : Kept) (n : ℕ) → DiskCause {E = Failed} mid new (Ok gate) → (told → Same mid new) → (told → Passes mid new NoMoment)
+    pub going_on : {G : Type 0} {new : View} {gate : G} (next : Kept) (n : ℕ) → DiskCause {E = Failed} mid new (Ok gate) → (told → Same mid new) → (told → Passes mid new NoMoment)
         → (told → GateIs room (behind journal mid.now.disk.bytes) (gates.Body n)) → n + 6 ≤ room → TakesIn n journal next → Going told start next old new
     going_on next n cause same moments gate fits takes = record {
       is_of = record { region = takes.is_of.region ∙ going.is_of.region; second = takes.is_of.second ∙ going.is_of.second };

@@ -1,6 +1,6 @@
 -- Which list of bodies a region of the image stands for.
-use Rattle.std.specs.Prelude.{◌≡◌, ◌≢◌, ℕ, ◌+◌, ◌*◌, ◌%◌, ◌<◌, ◌≤◌, ◌==◌, ◌⊎◌, Bool, true, false, List, ◌∷◌, ◌++◌, length, take, drop, slice_index}
-use Rattle.std.specs.Int.{from_be_bytes, w32}
+use Rattle.std.specs.Prelude.{◌≡◌, ◌≢◌, ℕ, ◌+◌, ◌*◌, ◌%◌, ◌^◌, ◌<◌, ◌≤◌, ◌==◌, ◌⊎◌, Bool, true, false, List, ◌∷◌, ◌++◌, length, take, drop, slice_index}
+use Rattle.std.specs.Int.{to_be_bytes, w32}
 use Rattle.board_core.specs.Contents.{View}
 use Rattle.board_core.specs.Moments.{SameOutside}
 use Rattle.journal_core.specs.declared.region.Region.{Region}
@@ -39,8 +39,8 @@ pub record HalfStands (at half : ℕ) (image : List ℕ) (bodies : List (List �
 abbrev pub RegionStands : Region → List ℕ → List (List ℕ) → Type 0
 RegionStands region image bodies = HalfStands (half_at region (selected region image)) region.half image bodies
 
--- Behind some framed bodies there is no room for a gate, or the gate is open and its length or its body,
--- or the gate that must follow it, reaches past the half.
+-- Behind some framed bodies there is no room for a gate; or the gate is open, and whatever length the four bytes behind it
+-- say, the body or the gate that must follow it reaches past the half.
 pub record HalfOverruns (at half : ℕ) (image : List ℕ) : Type 0 where
   pub bodies : List (List ℕ)
   pub before : List ℕ
@@ -49,8 +49,9 @@ pub record HalfOverruns (at half : ℕ) (image : List ℕ) : Type 0 where
   pub place : length before ≡ at
   pub sizes : AreBodies bodies
   pub past : (half < length (frames bodies) + 1)
-      ⊎ ((slice_index behind 0 ≡ 0xa5) × ((half < length (frames bodies) + 6) ⊎ (half < length (frames bodies) + 6 + from_be_bytes w32 (take 4 (drop 1 behind)))))
+      ⊎ ((slice_index behind 0 ≡ 0xa5) × ((n : ℕ) → n < 2 ^ 32 → take 4 (drop 1 behind) ≡ to_be_bytes w32 n → half < length (frames bodies) + 6 + n))
 
+-- the half that counts overruns
 abbrev pub RegionOverruns : Region → List ℕ → Type 0
 RegionOverruns region image = HalfOverruns (half_at region (selected region image)) region.half image
 

@@ -18,6 +18,6 @@ mod replace;
 pub use fault::{AppendFault, JournalFault};
 pub use framed::Framed;
 pub use journal::Journal;
-pub use laws::one_list;
+pub use laws::{kept_elsewhere, one_list, zeros_are_empty};
 pub use place::Place;
 pub use region::Region;

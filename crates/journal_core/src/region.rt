@@ -13,6 +13,14 @@ pub struct Region {
 impl Region {
     ghost use Rattle.journal_core.specs.Region.{half_at, region_size};
 
+    /// How many bytes it has.
+    pub fn size(self) -> u64
+        requires { region_size self < 2 ^ 64 }
+        ensures size { result ≡ region_size self }
+    {
+        16 + 2 * self.half
+    }
+
     // Where a half begins.
     pub(crate) fn half_at(self, second: bool) -> u64
         requires { self.at + region_size self < 2 ^ 64 }

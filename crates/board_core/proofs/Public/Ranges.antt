@@ -1,6 +1,6 @@
 -- Laws of fronts and of ranges of bytes.
 use Rattle.std.proofs.Common.{◌≡◌, ◌+◌, ◌-◌, ◌≤◌, ◌<◌, ℕ, List, [], Result, ◌++◌, length, take, drop, get_or, refl, sym, ◌∙◌, ap, subst, arith, append_assoc}
-use Rattle.std.proofs.lemmas.List.{append-nil, take-take, drop-drop, get_or-take, drop-take}
+use Rattle.std.proofs.lemmas.List.{append-nil, take-take, drop-drop, get_or-take, get_or-drop, drop-take}
 use Rattle.std.proofs.lemmas.Grind.{common_steps}
 use Rattle.outside_core.specs.Stream.{Begins}
 use Rattle.board_core.specs.Contents.{View, Disk, NothingPending}
@@ -65,6 +65,13 @@ outside_written at size p old bytes low high fit =
 -- a byte before the range is as it was
 pub before_same : (at n i d : ℕ) (old new : List ℕ) → i < at → SameOutside at n old new → get_or new i d ≡ get_or old i d
 before_same at n i d old new low same = sym (get_or-take at new i d low) ∙ ap (λ (l : List ℕ). get_or l i d) same.before ∙ get_or-take at old i d low
+
+-- a byte behind the range is as it was
+pub behind_byte : (at n i d : ℕ) (old new : List ℕ) → at + n ≤ i → SameOutside at n old new → get_or new i d ≡ get_or old i d
+behind_byte at n i d old new low same =
+    let split : at + n + (i - (at + n)) ≡ i = omega arith in
+    subst (λ (k : ℕ). get_or new k d ≡ get_or old k d) split
+    (sym (get_or-drop (at + n) new (i - (at + n)) d) ∙ ap (λ (l : List ℕ). get_or l (i - (at + n)) d) same.behind ∙ get_or-drop (at + n) old (i - (at + n)) d)
 
 -- bytes behind the range are as they were
 pub behind_same : (at n p count : ℕ) (old new : List ℕ) → at + n ≤ p → SameOutside at n old new → take count (drop p new) ≡ take count (drop p old)

@@ -1,0 +1,5 @@
+use Rattle.journal_core.proofs.Elsewhere.{zeros_law}
+use Rattle.journal_core.proofs.laws.zeros_are_empty.Goals as goal
+
+pub returns : goal.returns
+returns c = zeros_law
