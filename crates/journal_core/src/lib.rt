@@ -14,6 +14,8 @@ mod mount;
 mod place;
 mod region;
 mod replace;
+#[cfg(test)]
+mod tests;
 
 pub use fault::{AppendFault, JournalFault};
 pub use framed::Framed;

@@ -2,4 +2,4 @@ use Rattle.journal_core.proofs.Elsewhere.{zeros_law}
 use Rattle.journal_core.proofs.laws.zeros_are_empty.Goals as goal
 
 pub returns : goal.returns
-returns c = zeros_law
+returns c = record { empty = zeros_law }
