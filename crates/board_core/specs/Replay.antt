@@ -40,6 +40,7 @@ step s (Put at bytes ok) = record s {
 step s (Sync true) = record s { clean = true; may = λ image. image ≡ s.bytes }
 step s (Sync false) = s
 
+-- what further calls make of it
 abbrev pub replay : State → List Call → State
 replay s [] = s
 replay s (call ∷ calls) = replay (step s call) calls
@@ -70,6 +71,7 @@ fits size (Load ok) = true
 fits size (Put at bytes ok) = leb (at + length bytes) size
 fits size (Sync ok) = true
 
+-- each put lies within the image
 abbrev pub all_fit : ℕ → List Call → Bool
 all_fit size calls = list_all (fits size) calls
 

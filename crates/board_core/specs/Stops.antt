@@ -19,6 +19,7 @@ left_in_put AsPut image at bytes ok = written image at (done ok bytes)
 left_in_put FilledA5 image at bytes ok = written image at (replicate (length bytes) 0xa5)
 left_in_put Filled5A image at bytes ok = written image at (replicate (length bytes) 0x5a)
 
+-- what a stop leaves of any call: another than a put leaves the image as it was
 abbrev pub left_in : Stop → List ℕ → Call → List ℕ
 left_in stop image (Read ok) = image
 left_in stop image (Send bytes ok) = image
@@ -49,6 +50,7 @@ begun_by stop (Load ok) = []
 begun_by stop (Put at bytes ok) = []
 begun_by stop (Sync ok) = []
 
+-- a sync that worked
 abbrev pub is_good_sync : Call → Bool
 is_good_sync (Read ok) = false
 is_good_sync (Send bytes ok) = false

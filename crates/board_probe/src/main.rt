@@ -1,7 +1,7 @@
 //! What a board over files takes, gives and keeps, as its stored run sees it from outside.
 //!
 //! The input goes to the output. Then parts of the file `probe.img`, of 32 bytes, go there: as they were,
-//! with two puts, and as another board finds them behind a sync.
+//! behind a put and a sync, and as another board finds them behind two of each.
 #![tactic(auto)]
 
 use base_types::Failed;
@@ -37,14 +37,12 @@ fn show<B: Board>(board: &mut B, at: u64) -> Result<(), Failed> {
     board.send(b"\n")
 }
 
-// Puts two words into the image, and makes them durable.
-fn put_words<B: Board>(board: &mut B) -> Result<(), Failed> {
-    if board.size() != SIZE {
+// Puts a word into the image, and makes it durable.
+fn put_word<B: Board>(board: &mut B, at: u64, word: [u8; 4]) -> Result<(), Failed> {
+    if board.size() != SIZE || at > SIZE - 4 {
         return Err(Failed);
     }
-    board.put(20, b"LATE")?;
-    board.put(4, b"SOON")?;
-    show(board, 16)?;
+    board.put(at, &word)?;
     board.sync()
 }
 
@@ -52,7 +50,9 @@ fn change<B: Board>(board: &mut B) -> Result<(), Failed> {
     copy_input(board)?;
     show(board, 8)?;
     show(board, 0)?;
-    put_words(board)
+    put_word(board, 20, *b"LATE")?;
+    show(board, 16)?;
+    put_word(board, 4, *b"SOON")
 }
 
 fn show_all<B: Board>(board: &mut B) -> Result<(), Failed> {

@@ -15,5 +15,6 @@ frames = flat_map frame
 abbrev pub IsBody : List ℕ → Type 0
 IsBody body = length body < 2 ^ 32
 
+-- each has four bytes of length
 abbrev pub AreBodies : List (List ℕ) → Type 0
 AreBodies = AllByRecursion IsBody

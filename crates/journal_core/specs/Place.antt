@@ -13,5 +13,6 @@ pub record LiesIn (from size : ℕ) (place : Place) : Type 0 where
   pub after : from ≤ place.at
   pub within : place.at + place.length ≤ from + size
 
+-- each place lies there
 abbrev pub AllLieIn : ℕ → ℕ → List Place → Type 0
 AllLieIn from size = AllByRecursion (LiesIn from size)

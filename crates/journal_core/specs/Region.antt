@@ -1,5 +1,6 @@
 -- Which list of bodies a region of the image stands for.
-use Rattle.std.specs.Prelude.{◌≡◌, ◌≢◌, ℕ, ◌+◌, ◌*◌, ◌%◌, ◌^◌, ◌<◌, ◌≤◌, ◌==◌, ◌⊎◌, Bool, true, false, List, ◌∷◌, ◌++◌, length, take, drop, slice_index}
+use Rattle.std.specs.Prelude.{◌≡◌, ◌≢◌, ◌+◌, ◌*◌, ◌%◌, ◌^◌, ◌<◌, ◌≤◌, ◌==◌, ◌⊎◌, ◌∷◌, ◌++◌}
+use Rattle.std.specs.Prelude.{ℕ, Bool, true, false, List, length, take, drop, slice_index}
 use Rattle.std.specs.Int.{to_be_bytes, w32}
 use Rattle.board_core.specs.Contents.{View}
 use Rattle.board_core.specs.Moments.{SameOutside}

@@ -5,12 +5,15 @@ use Rattle.base_types.specs.declared.failed.Failed.{Failed}
 use Rattle.board_core.specs.Contents.{View, Same}
 use Rattle.board_core.specs.Calls.{DiskCause, DiskCausedBy}
 
+-- no call leaves all that the board holds
 pub same_none : (board : View) → Same board board
 same_none board = record { stream = refl; disk = refl }
 
+-- two calls of which each leaves it
 pub same_both : {old mid new : View} → Same old mid → Same mid new → Same old new
 same_both first second = record { stream = second.stream ∙ first.stream; disk = second.disk ∙ first.disk }
 
+-- a call that worked leaves the count for the next
 cause_both : {T E T2 E2 : Type 0} {x : T2} {before between now : ℕ} (result : Result T E)
     → HasCause {E = E2} before between (Ok x) → HasCause between now result → HasCause before now result
 cause_both {before = before} {between = between} {now = now} (Ok u) first second = record { later = omega (arith, first.later, second.later); failed = tt; steady = second.steady ∙ first.steady }
