@@ -4,3 +4,4 @@ pub mod Fields
 pub mod Forms
 pub mod Placed
 pub mod Values
+pub mod Lengths

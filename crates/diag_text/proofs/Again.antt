@@ -7,10 +7,11 @@ use Rattle.std.proofs.lemmas.Bool.{cases_lt, cases_eq, le-leb}
 use Rattle.std.proofs.lemmas.Fmt.{decimal_is_IsNumeral_wide}
 use Rattle.std.proofs.lemmas.List.Sums.{take_while-cons}
 use Rattle.std.proofs.lemmas.Str.Parse.{digit_at}
-use Rattle.cbor_heads.specs.Place.{Place, skip}
+use Rattle.cbor_heads.specs.Place.{Place, skip, begins}
 use Rattle.diag_text.specs.Printed.{hex_digit, hex_byte, escaped, listed}
-use Rattle.diag_text.specs.Reading.{Outcome, begins, behind, digits, same, number_of, number_at, hex_value, hex_pair, hex_guess, text_guess, pieces_at, parts_at, Reader}
-use Rattle.diag_text.specs.Faulty.{NoDigit, Stops}
+use Rattle.cbor_heads.specs.Reading.{Outcome, Reader}
+use Rattle.diag_text.specs.Reading.{past, digits, same, numeral_value, number_at, hex_value, hex_pair, hex_guess, text_guess, pieces_at, parts_at}
+use Rattle.diag_text.specs.Faulty.{NoDigit, EndsNumber}
 use Rattle.diag_text.proofs.Characters.{plain}
 use Rattle.diag_text.proofs.Fronts.{begins_front, stops_by, stops_comma}
 
@@ -20,7 +21,7 @@ place b text = record { at = b; rest = text }
 pub skip_front : (b : ℕ) (token more : List ℕ) → skip (length token) (place b (token ++ more)) ≡ place (b + length token) more
 skip_front b token more = ap (λ (t : List ℕ). place (b + length token) t) (drop_at token more (length token) refl)
 
-pub behind_again : {A : Type 0} (token : List ℕ) (b : ℕ) (more : List ℕ) (f : Place → Outcome A) → behind token (place b (token ++ more)) f ≡ f (place (b + length token) more)
+pub behind_again : {A : Type 0} (token : List ℕ) (b : ℕ) (more : List ℕ) (f : Place → Outcome ℕ A) → past token (place b (token ++ more)) f ≡ f (place (b + length token) more)
 behind_again token b more f = rw (begins_front token more) (ap f (skip_front b token more))
 
 -- ---- bytes and characters
@@ -101,8 +102,8 @@ same_self : (a : List ℕ) → same a a ≡ true
 same_self [] = refl
 same_self (x ∷ xs) = rw (eq-eqb x x refl) (same_self xs)
 
-number_back : (limit n : ℕ) → n < limit → n < 10 ^ 64 → number_of limit (decimal n) ≡ Some n
-unfolding number_of
+number_back : (limit n : ℕ) → n < limit → n < 10 ^ 64 → numeral_value limit (decimal n) ≡ Some n
+unfolding numeral_value
 number_back limit n lt wide =
     let value : digits_value 10 (decimal n) ≡ n = (decimal_is_IsNumeral_wide n wide).1 in
     rw (value, lt-ltb n limit lt, same_self (decimal n)) refl
@@ -115,12 +116,12 @@ number_again at limit n b more lt wide stop =
 
 -- ---- parts
 
-abbrev pub AgainBy : {X : Type 0} → Reader X → (X → List ℕ) → (List ℕ → Type 0) → X → Type 0
+abbrev pub AgainBy : {X : Type 0} → Reader ℕ X → (X → List ℕ) → (List ℕ → Type 0) → X → Type 0
 AgainBy read text ends x = (b : ℕ) (more : List ℕ) → ends more → read (place b (text x ++ more)) ≡ Ok (x, place (b + length (text x)) more)
 
 -- a closing mark, behind which anything may stand
 pub record IsMark (close : List ℕ) : Type 0 where
-  pub stops : (more : List ℕ) → Stops (close ++ more)
+  pub stops : (more : List ℕ) → EndsNumber (close ++ more)
   pub not_comma : (more : List ℕ) → begins close (codes ", " ++ more) ≡ false
 
 pub square : IsMark (codes "]")
@@ -129,11 +130,11 @@ square = record { stops = λ more. stops_by 93 more refl refl; not_comma = λ mo
 pub curly : IsMark (codes "}")
 curly = record { stops = λ more. stops_by 125 more refl refl; not_comma = λ more. refl }
 
-module _ {X : Type 0} (part : List X → Reader X) (text : X → List ℕ) (close : List ℕ) (mark : IsMark close) where
+module _ {X : Type 0} (part : List X → Reader ℕ X) (text : X → List ℕ) (close : List ℕ) (mark : IsMark close) where
   -- each part is read again behind those before it
   abbrev pub Each : List X → List X → Type 0
   Each found [] = Unit {0}
-  Each found (x ∷ xs) = AgainBy (part found) text Stops x × Each (found ++ x ∷ []) xs
+  Each found (x ∷ xs) = AgainBy (part found) text EndsNumber x × Each (found ++ x ∷ []) xs
 
   pub parts_again : (xs : List X) (x : X) (found : List X) (n b : ℕ) (more : List ℕ) → Each found (x ∷ xs) → length (x ∷ xs) ≤ n
       → parts_at part close n found (place b (listed text (x ∷ xs) ++ (close ++ more))) ≡ Ok (found ++ x ∷ xs, place (b + length (listed text (x ∷ xs) ++ close)) more)

@@ -8,11 +8,12 @@ use Rattle.diag_text.specs.declared.fault.DiagFault.{DiagFault}
 use Rattle.diag_text.specs.declared.fault.TextFault.{TextFault}
 use Rattle.diag_text.specs.declared.fault.DiagFault.TheVariants as faults
 use Rattle.diag_text.specs.Printed.{printed, Prints}
-use Rattle.diag_text.specs.Reading.{Outcome, item_at, alone_by, whole_at, Decides, IsFound, IsRefused}
+use Rattle.cbor_heads.specs.Reading.{Outcome}
+use Rattle.diag_text.specs.Reading.{item_at, alone_by, whole_at, Decides, IsTextRead, IsTextRefused}
 use Rattle.diag_text.specs.Faulty.{TextFaulty}
 use Rattle.diag_text.specs.Law.{OneItem, OneFault, ExactlyOne}
 use Rattle.diag_text.proofs.Fronts.{stops_end, stops_ends}
-use Rattle.diag_text.proofs.Takes.{chosen, ok_is, not_ok, err_is, not_err}
+use Rattle.cbor_heads.proofs.Public.Outcomes.{chosen, ok_is, not_ok, err_is, not_err}
 use Rattle.diag_text.proofs.Found.{item_takes}
 use Rattle.diag_text.proofs.Reread.{item_again}
 use Rattle.diag_text.proofs.Faults.{item_fault}
@@ -22,7 +23,7 @@ nothing_more : (a rest : List ℕ) → length rest ≤ 0 → a ++ rest ≡ a
 nothing_more a [] none = append-nil a
 nothing_more a (b ∷ rest) none = absurd (omega arith)
 
-alone_item : (text : List ℕ) (o : Outcome Item) (x : Item) → length text < 2 ^ 64 → item_at 16 (start text) ≡ o → alone_by o ≡ Ok x → Prints x text
+alone_item : (text : List ℕ) (o : Outcome ℕ Item) (x : Item) → length text < 2 ^ 64 → item_at 16 (start text) ≡ o → alone_by o ≡ Ok x → Prints x text
 alone_item text (Err at) x fits is e = absurd (not_ok at x e)
 alone_item text (Ok y) x fits is e = elim (chosen (nat_lt 0 (length y.1.rest)) (Err y.1.at) (Ok y.0) (Ok x) e) [
   | inl more ↦ absurd (not_ok y.1.at x more.1)
@@ -44,14 +45,14 @@ whole_again text x p =
     let read = item_again 16 x (p.proper, p.ranges) 0 [] (stops_ends x [] stops_end) in
     ap (λ (t : List ℕ). whole_at t) is ∙ (rw read refl)
 
-pub read_only : (text : List ℕ) (r : Result Item DiagFault) → Decides (whole_at text) r → (x : Item) → Prints x text → IsFound r x
+pub read_only : (text : List ℕ) (r : Result Item DiagFault) → Decides (whole_at text) r → (x : Item) → Prints x text → IsTextRead r x
 read_only text (Ok y) d x p = let e = whole_again text x p in let both : whole_at text ≡ Ok y = d in cc
 read_only text (Err faults.NoMemory) d x p = tt
 read_only text (Err (faults.Bad f)) d x p = absurd (let e = whole_again text x p in let both : whole_at text ≡ Err f.at = d in cc)
 
 -- ---- the place of the fault
 
-fault_by : (text : List ℕ) (o : Outcome Item) (at : ℕ) → length text < 2 ^ 64 → item_at 16 (start text) ≡ o → alone_by o ≡ Err at → TextFaulty text at
+fault_by : (text : List ℕ) (o : Outcome ℕ Item) (at : ℕ) → length text < 2 ^ 64 → item_at 16 (start text) ≡ o → alone_by o ≡ Err at → TextFaulty text at
 fault_by text (Err b) at fits is e = let same : b ≡ at = err_is {A = Item} b at e in inl (item_fault 16 (start text) at fits (is ∙ ap (λ (k : ℕ). Err k) same))
 fault_by text (Ok y) at fits is e = elim (chosen (nat_lt 0 (length y.1.rest)) (Err y.1.at) (Ok y.0) (Err at) e) [
   | inl more ↦
@@ -85,7 +86,7 @@ read_bad text (Ok x) fits d f e = absurd cc
 read_bad text (Err faults.NoMemory) fits d f e = absurd cc
 read_bad text (Err (faults.Bad g)) fits d f e = let is : g ≡ f = cc in subst (λ (h : TextFault). TextFaulty text h.at) is (whole_fault text g.at fits d)
 
-pub read_refused : (text : List ℕ) (r : Result Item DiagFault) → length text < 2 ^ 64 → Decides (whole_at text) r → (at : ℕ) → TextFaulty text at → IsRefused r at
+pub read_refused : (text : List ℕ) (r : Result Item DiagFault) → length text < 2 ^ 64 → Decides (whole_at text) r → (at : ℕ) → TextFaulty text at → IsTextRefused r at
 read_refused text (Ok x) fits d at h = absurd (let e = whole_refuses text at fits h in let both : whole_at text ≡ Ok x = d in cc)
 read_refused text (Err faults.NoMemory) fits d at h = tt
 read_refused text (Err (faults.Bad g)) fits d at h = err_is {A = Item} g.at at (sym d ∙ whole_refuses text at fits h)

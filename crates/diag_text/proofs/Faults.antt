@@ -3,25 +3,27 @@ use Rattle.std.proofs.Common.{◌≡◌, ℕ, zero, suc, ◌^◌, ◌<◌, true,
 use Rattle.cbor_core.specs.declared.item.Item.{Item}
 use Rattle.cbor_core.specs.declared.item.Item.TheVariants as i
 use Rattle.cbor_core.specs.declared.item.Pair.{Pair}
-use Rattle.cbor_heads.specs.Place.{Place, skip, behind as place_behind}
+use Rattle.cbor_heads.specs.Place.{Place, skip, behind, begins}
 use Rattle.cbor_core.specs.Spelling.{spelling, bytes_below, IsSpellable}
 use Rattle.cbor_core.specs.Faulty.{last_key}
 use Rattle.diag_text.specs.Printed.{printed, pair_printed}
-use Rattle.diag_text.specs.Reading.{Reader, ◌>>=◌, begins, behind, parts_at, inside_at, member_at, key_at, pair_at, array_at, map_at, tag_at, item_by, item_at}
+use Rattle.cbor_heads.specs.Reading.{Reader, ◌>>=◌, nested}
+use Rattle.diag_text.specs.Reading.{past, parts_at, inside_at, member_at, key_at, pair_at, array_at, map_at, tag_at, item_by, item_at}
 use Rattle.diag_text.specs.Faulty.{Starts, Begins, followed, NeitherMark, WrongBehind, PartFault, ArrayFault, ColonFault, KeyFault, MapFault, TagFault, FaultyBy, Faulty}
 use Rattle.diag_text.proofs.Fronts.{not_starts}
 use Rattle.diag_text.proofs.Loops.{member_is}
-use Rattle.diag_text.proofs.Takes.{bind_ok, chosen, ok_is, held, err_is, not_err, bind_err, Took, took_then, took_fits, token_took, NumberTook}
+use Rattle.cbor_heads.proofs.Public.Outcomes.{bind_ok, chosen, ok_is, held, err_is, not_err, bind_err}
+use Rattle.diag_text.proofs.Takes.{Took, took_then, took_fits, token_took, NumberTook}
 use Rattle.diag_text.proofs.Again.{place}
 use Rattle.diag_text.proofs.Found.{TakesBy, Taken, PairIs, chain_all, chain_pairs, chain_ascends, member_takes, pair_takes, pair_parts, item_takes}
 use Rattle.diag_text.proofs.Level.{Level, level, scalar, nothing, square, curly, tagged, scalar_read, item_empty}
 use Rattle.diag_text.proofs.Halts.{behind_is, behind_then, Halts, parts_stop}
 
 -- what a reader refuses is faulty
-abbrev pub FaultBy : Reader Item → (Place → ℕ → Type 0) → Type 0
+abbrev pub FaultBy : Reader ℕ Item → (Place → ℕ → Type 0) → Type 0
 FaultBy inner F = (p : Place) (at : ℕ) → length p.rest < 2 ^ 64 → inner p ≡ Err at → F p at
 
-module _ (inner : Reader Item) (P : Item → Type 0) (F : Place → ℕ → Type 0) (takes : TakesBy inner P) (refuses : FaultBy inner F) (empty : (b : ℕ) → inner (place b []) ≡ Err b) where
+module _ (inner : Reader ℕ Item) (P : Item → Type 0) (F : Place → ℕ → Type 0) (takes : TakesBy inner P) (refuses : FaultBy inner F) (empty : (b : ℕ) → inner (place b []) ≡ Err b) where
   wrong_behind : (Wrong : List ℕ → Type 0) (q : Place) (at : ℕ) (x : Item × Place) → Taken P q x → Wrong x.1.rest → at ≡ x.1.at → WrongBehind P Wrong q at
   wrong_behind Wrong q at x t wrong is = record { item = x.0; more = x.1.rest; proper = t.proper; stands = record { front = t.took.rest; ends = t.ends }; wrong = wrong; place = is ∙ t.took.at }
 
@@ -73,7 +75,7 @@ module _ (inner : Reader Item) (P : Item → Type 0) (F : Place → ℕ → Type
   pair_fault : (found : List Pair) (q : Place) (at : ℕ) → length q.rest < 2 ^ 64 → Halts (pair_at inner) (codes "}") found q at → F q at ⊎ KeyFault P F (last_key [] found) q at
   pair_fault found q at fits (inl stop) =
       let last = last_key [] found in
-      elim (bind_err (key_at inner last q) (λ key. behind (codes ": ") key.1 (λ r. inner r >>= λ value. Ok (record { key = key.0; value = value.0 }, value.1))) at stop) [
+      elim (bind_err (key_at inner last q) (λ key. past (codes ": ") key.1 (λ r. inner r >>= λ value. Ok (record { key = key.0; value = value.0 }, value.1))) at stop) [
         | inl here ↦ key_fault last q at fits here
         | inr go ↦
             let x = go.0 in
@@ -103,7 +105,7 @@ module _ (inner : Reader Item) (P : Item → Type 0) (F : Place → ℕ → Type
 
   -- ---- containers
 
-  behind_mark : (p : Place) (mark text more : List ℕ) → Took p mark (skip (length mark) p) → place_behind (skip (length mark) p).at text more ≡ place_behind p.at (mark ++ text) more
+  behind_mark : (p : Place) (mark text more : List ℕ) → Took p mark (skip (length mark) p) → behind (skip (length mark) p).at text more ≡ behind p.at (mark ++ text) more
   behind_mark p mark text more t = behind_then p mark (skip (length mark) p) text more t.at
 
   more_fits : (p : Place) (front more : List ℕ) → p.rest ≡ front ++ more → length p.rest < 2 ^ 64 → length more < 2 ^ 64
@@ -121,7 +123,7 @@ module _ (inner : Reader Item) (P : Item → Type 0) (F : Place → ℕ → Type
           | inr some ↦
               let s = parts_stop (member_at inner) printed (λ found y. P y) (codes "]") (member_takes inner P takes) member_empty (length q.rest) [] q at left (omega arith) some.1 in
               let text : List ℕ = followed printed s.parts in
-              let next = member_fault s.parts (place_behind q.at text s.more) at (more_fits q text s.more s.stands left) s.next in
+              let next = member_fault s.parts (behind q.at text s.more) at (more_fits q text s.more s.stands left) s.next in
               record {
                 members = s.parts;
                 more = s.more;
@@ -145,7 +147,7 @@ module _ (inner : Reader Item) (P : Item → Type 0) (F : Place → ℕ → Type
           | inr some ↦
               let s = parts_stop (pair_at inner) pair_printed (PairIs P) (codes "}") (pair_takes inner P takes) pair_empty (length q.rest) [] q at left (omega arith) some.1 in
               let text : List ℕ = followed pair_printed s.parts in
-              let next = pair_fault s.parts (place_behind q.at text s.more) at (more_fits q text s.more s.stands left) s.next in
+              let next = pair_fault s.parts (behind q.at text s.more) at (more_fits q text s.more s.stands left) s.next in
               record {
                 pairs = s.parts;
                 more = s.more;
@@ -164,7 +166,7 @@ module _ (inner : Reader Item) (P : Item → Type 0) (F : Place → ℕ → Type
       let sep : Took a.1 (codes "(") q = token_took (codes "(") a.1 here in
       let front : Took p (decimal a.0 ++ codes "(") q = took_then p (decimal a.0) a.1 (codes "(") q number.took sep in
       let left = took_fits p (decimal a.0 ++ codes "(") q front fits in
-      let next : PartFault P F (λ rest. Starts (codes ")") rest → ⊥) q at = (elim (bind_err (inner q) (λ x. behind (codes ")") x.1 (λ s. Ok (i.Tag a.0 x.0, s))) at e) [
+      let next : PartFault P F (λ rest. Starts (codes ")") rest → ⊥) q at = (elim (bind_err (inner q) (λ x. past (codes ")") x.1 (λ s. Ok (i.Tag a.0 x.0, s))) at e) [
         | inl stop ↦ inl (refuses q at left stop)
         | inr go ↦
             let x = go.0 in
@@ -207,7 +209,7 @@ leaf_fault p at e l =
 
 -- what is refused is faulty
 pub item_fault : (d : ℕ) → FaultBy (item_at d) (Faulty d)
-unfolding item_at
+unfolding nested
 item_fault zero p at fits e = inl (leaf_fault p at e (level None p (Err at) fits e))
 item_fault (suc d) p at fits e =
     inside_fault (item_at d) (IsSpellable d) (Faulty d) (item_takes d) (item_fault d) (item_empty d) p at fits e (level (Some (item_at d)) p (Err at) fits e)

@@ -8,18 +8,20 @@ use Rattle.std.proofs.lemmas.Str.{IsUtf8-from_is_utf8}
 use Rattle.cbor_core.specs.declared.item.Item.{Item, out-Item}
 use Rattle.cbor_core.specs.declared.item.Item.TheVariants as i
 use Rattle.cbor_core.specs.declared.item.Pair.{Pair}
-use Rattle.cbor_heads.specs.Place.{Place, skip}
+use Rattle.cbor_heads.specs.Place.{Place, skip, begins}
 use Rattle.cbor_core.specs.Faulty.{last_key}
 use Rattle.cbor_core.specs.Spelling.{spelling, bytes_below, KeysAscend, IsSpellable, IsProper, IsProperWithin}
 use Rattle.cbor_core.proofs.Public.Parts.{proper_more}
 use Rattle.diag_text.proofs.Loops.{last_key_more, member_is}
 use Rattle.cbor_core.proofs.Public.Levels.{IsWholeBy, to_spellable}
 use Rattle.diag_text.specs.Printed.{hex_byte, escaped, listed, printed, pair_printed}
-use Rattle.diag_text.specs.Reading.{Reader, ◌>>=◌, begins, behind, hex_value, hex_guess, text_guess, bytes_at, text_at, parts_at, inside_at, member_at, key_at, pair_at, array_at, map_at, tag_at, number_at, number_or_tag, negative_by, negative_at, text_by, string_at, item_by, item_at}
+use Rattle.cbor_heads.specs.Reading.{Reader, ◌>>=◌, nested}
+use Rattle.diag_text.specs.Reading.{past, hex_value, hex_guess, text_guess, bytes_at, text_at, parts_at, inside_at, member_at, key_at, pair_at, array_at, map_at, tag_at, number_at, number_or_tag, negative_by, negative_at, text_by, string_at, item_by, item_at}
 use Rattle.diag_text.proofs.Texts.{printed_Unsigned, printed_Negative, printed_Bytes, printed_Text, printed_Array, printed_Map, printed_Tag, printed_Truth, printed_Null, pair_printed_out}
 use Rattle.diag_text.specs.Faulty.{Ends}
 use Rattle.diag_text.proofs.Fronts.{not_starts}
-use Rattle.diag_text.proofs.Takes.{bind_ok, not_ok, ok_is, chosen, held, Took, took_then, took_fits, token_took, behind_took, done, pieces_take, Chain, parts_take, NumberTook, number_takes}
+use Rattle.cbor_heads.proofs.Public.Outcomes.{bind_ok, not_ok, ok_is, chosen, held, done}
+use Rattle.diag_text.proofs.Takes.{Took, took_then, took_fits, token_took, behind_took, pieces_take, Chain, parts_take, NumberTook, number_takes}
 
 hex_small : (c : ℕ) → hex_value c < 16
 hex_small c = elim (cases_lt c 48) [
@@ -52,14 +54,14 @@ pub record Taken (P : Item → Type 0) (p : Place) (x : Item × Place) : Type 0 
   pub ends : Ends x.0 x.1.rest
   pub proper : P x.0
 
-abbrev pub TakesBy : Reader Item → (Item → Type 0) → Type 0
+abbrev pub TakesBy : Reader ℕ Item → (Item → Type 0) → Type 0
 TakesBy inner P = (p : Place) (x : Item × Place) → length p.rest < 2 ^ 64 → inner p ≡ Ok x → Taken P p x
 
 module _ (room : Bool) (P : Item → Type 0) where
-  made : (p q : Place) (y : Item) (text : List ℕ) (x : Item × Place) → Took p text q → printed y ≡ text → Ends y q.rest → IsWholeBy room P (out-Item y) → done (y, q) ≡ Ok x → Whole room P p x
+  made : (p q : Place) (y : Item) (text : List ℕ) (x : Item × Place) → Took p text q → printed y ≡ text → Ends y q.rest → IsWholeBy room P (out-Item y) → done {E = ℕ} (y, q) ≡ Ok x → Whole room P p x
   made p q y text x t is ends whole e = subst (λ (z : Item × Place). Whole room P p z) (ok_is (y, q) x e) (record { took = rw is t; ends = ends; proper = whole })
 
-  pub word_takes : (p : Place) (token : List ℕ) (n : ℕ) (y : Item) (x : Item × Place) → begins token p.rest ≡ true → length token ≡ n → printed y ≡ token → Ends y (skip n p).rest → IsWholeBy room P (out-Item y) → done (y, skip n p) ≡ Ok x → Whole room P p x
+  pub word_takes : (p : Place) (token : List ℕ) (n : ℕ) (y : Item) (x : Item × Place) → begins token p.rest ≡ true → length token ≡ n → printed y ≡ token → Ends y (skip n p).rest → IsWholeBy room P (out-Item y) → done {E = ℕ} (y, skip n p) ≡ Ok x → Whole room P p x
   word_takes p token n y x here len is ends whole e = made p (skip n p) y token x (subst (λ (k : ℕ). Took p token (skip k p)) len (token_took token p here)) is ends whole e
 
   pub bytes_takes : (p : Place) (at : ℕ) (x : Item × Place) → begins (codes "h'") p.rest ≡ true → length p.rest < 2 ^ 64 → (bytes_at at (skip 2 p) >>= λ y. Ok (i.Bytes y.0, y.1)) ≡ Ok x → Whole room P p x
@@ -105,7 +107,7 @@ pub record Inside {X : Type 0} (text : X → List ℕ) (P : List X → X → Typ
   pub each : Chain P [] x.0
   pub took : Took p (listed text x.0 ++ close) x.1
 
-inside_takes : {X : Type 0} (part : List X → Reader X) (text : X → List ℕ) (P : List X → X → Type 0) (close : List ℕ)
+inside_takes : {X : Type 0} (part : List X → Reader ℕ X) (text : X → List ℕ) (P : List X → X → Type 0) (close : List ℕ)
     → ((found : List X) (p : Place) (x : X × Place) → length p.rest < 2 ^ 64 → part found p ≡ Ok x → Took p (text x.0) x.1 × P found x.0)
     → (p : Place) (x : List X × Place) → length p.rest < 2 ^ 64 → inside_at part close p ≡ Ok x → Inside text P close p x
 inside_takes {X = X} part text P close law p x fits e =
@@ -140,13 +142,13 @@ pub record PairTaken (Q : Item → Type 0) (last : List ℕ) (p : Place) (x : Pa
   pub colon : Took middle (codes ": ") (skip 2 middle)
   pub value : Taken Q (skip 2 middle) (x.0.value, x.1)
 
-module _ (inner : Reader Item) (Q : Item → Type 0) (law : TakesBy inner Q) where
+module _ (inner : Reader ℕ Item) (Q : Item → Type 0) (law : TakesBy inner Q) where
   pub member_takes : (found : List Item) (p : Place) (x : Item × Place) → length p.rest < 2 ^ 64 → member_at inner found p ≡ Ok x → Took p (printed x.0) x.1 × Q x.0
   member_takes found p x fits e = let t = law p x fits (sym (member_is inner found p) ∙ e) in (t.took, t.proper)
 
   pub pair_parts : (found : List Pair) (p : Place) (x : Pair × Place) → length p.rest < 2 ^ 64 → pair_at inner found p ≡ Ok x → PairTaken Q (last_key [] found) p x
   pair_parts found p x fits e =
-      let a = bind_ok (key_at inner (last_key [] found) p) (λ key. behind (codes ": ") key.1 (λ q. inner q >>= λ value. Ok (record { key = key.0; value = value.0 }, value.1))) x e in
+      let a = bind_ok (key_at inner (last_key [] found) p) (λ key. past (codes ": ") key.1 (λ q. inner q >>= λ value. Ok (record { key = key.0; value = value.0 }, value.1))) x e in
       let b = bind_ok (inner p) (λ key. cond (bytes_below (last_key [] found) (spelling key.0)) (Ok key) (Err p.at)) a.0 a.1 in
       let h = held (bytes_below (last_key [] found) (spelling b.0.0)) (Ok b.0) p.at a.0 b.2 in
       let is : b.0 ≡ a.0 = ok_is b.0 a.0 h.1 in
@@ -191,7 +193,7 @@ module _ (inner : Reader Item) (Q : Item → Type 0) (law : TakesBy inner Q) whe
       let r : Place = skip 1 q in
       let front : Took q (codes "(") r = token_took (codes "(") q here in
       let left = took_fits q (codes "(") r front (took_fits p (decimal n) q number fits) in
-      let a = bind_ok (inner r) (λ y. behind (codes ")") y.1 (λ s. Ok (i.Tag n y.0, s))) x e in
+      let a = bind_ok (inner r) (λ y. past (codes ")") y.1 (λ s. Ok (i.Tag n y.0, s))) x e in
       let one = law r a.0 left a.1 in
       let end = behind_took (codes ")") a.0.1 (λ s. Ok (i.Tag n a.0.0, s)) x a.2 in
       let s : Place = skip 1 a.0.1 in
@@ -208,7 +210,7 @@ number_or_tag_leaf p a x number e = elim (chosen (begins (codes "(") a.1.rest) (
   | inr plain ↦ made false (λ _. ⊥) p a.1 (i.Unsigned a.0) (decimal a.0) x number.took (printed_Unsigned a.0) (rw i.outs-Unsigned (number.ends, not_starts (codes "(") a.1.rest plain.0)) (rw i.outs-Unsigned number.below) plain.1
 ]
 
-number_or_tag_inside : (inner : Reader Item) (Q : Item → Type 0) (law : TakesBy inner Q) (p : Place) (a : ℕ × Place) (x : Item × Place) → NumberTook (2 ^ 64) p a → length p.rest < 2 ^ 64
+number_or_tag_inside : (inner : Reader ℕ Item) (Q : Item → Type 0) (law : TakesBy inner Q) (p : Place) (a : ℕ × Place) (x : Item × Place) → NumberTook (2 ^ 64) p a → length p.rest < 2 ^ 64
     → number_or_tag (Some inner) p.at a ≡ Ok x → Whole true Q p x
 number_or_tag_inside inner Q law p a x number fits e = elim (chosen (begins (codes "(") a.1.rest) (tag_at (Some inner) p.at a.0 (skip 1 a.1)) (Ok (i.Unsigned a.0, a.1)) (Ok x) e) [
   | inl tagged ↦ tag_takes inner Q law p p.at a.0 a.1 x number.took number.below tagged.0 fits tagged.1
@@ -216,12 +218,12 @@ number_or_tag_inside inner Q law p a x number fits e = elim (chosen (begins (cod
 ]
 
 -- what the readers of containers and of plain numbers take
-record Readers (inner : Option (Reader Item)) (room : Bool) (P : Item → Type 0) : Type 0 where
+record Readers (inner : Option (Reader ℕ Item)) (room : Bool) (P : Item → Type 0) : Type 0 where
   array : (p : Place) (x : Item × Place) → begins (codes "[") p.rest ≡ true → length p.rest < 2 ^ 64 → array_at inner p.at (skip 1 p) ≡ Ok x → Whole room P p x
   map : (p : Place) (x : Item × Place) → begins (codes "{") p.rest ≡ true → length p.rest < 2 ^ 64 → map_at inner p.at (skip 1 p) ≡ Ok x → Whole room P p x
   number : (p : Place) (a : ℕ × Place) (x : Item × Place) → NumberTook (2 ^ 64) p a → length p.rest < 2 ^ 64 → number_or_tag inner p.at a ≡ Ok x → Whole room P p x
 
-level_takes : (inner : Option (Reader Item)) (room : Bool) (P : Item → Type 0) → Readers inner room P → (p : Place) (x : Item × Place) → length p.rest < 2 ^ 64 → item_by inner p ≡ Ok x → Whole room P p x
+level_takes : (inner : Option (Reader ℕ Item)) (room : Bool) (P : Item → Type 0) → Readers inner room P → (p : Place) (x : Item × Place) → length p.rest < 2 ^ 64 → item_by inner p ≡ Ok x → Whole room P p x
 level_takes inner room P readers p x fits e0 = elim (chosen (begins (codes "true") p.rest) _ _ (Ok x) e0) [
   | inl h ↦ word_takes room P p (codes "true") 4 (i.Truth true) x h.0 refl (printed_Truth true) (rw i.outs-Truth tt) (rw i.outs-Truth tt) h.1
   | inr e1 ↦ elim (chosen (begins (codes "false") p.rest) _ _ (Ok x) e1.1) [
@@ -258,7 +260,7 @@ leaf_readers = record {
   number = λ p a x number fits e. number_or_tag_leaf p a x number e;
 }
 
-inside_readers : (inner : Reader Item) (Q : Item → Type 0) → TakesBy inner Q → Readers (Some inner) true Q
+inside_readers : (inner : Reader ℕ Item) (Q : Item → Type 0) → TakesBy inner Q → Readers (Some inner) true Q
 inside_readers inner Q law = record {
   array = λ p x h fits e. array_takes inner Q law p p.at x h fits e;
   map = λ p x h fits e. map_takes inner Q law p p.at x h fits e;
@@ -267,7 +269,7 @@ inside_readers inner Q law = record {
 
 -- what is read has this text
 pub item_takes : (d : ℕ) → TakesBy (item_at d) (IsSpellable d)
-unfolding item_at
+unfolding nested
 item_takes zero p x fits e = let w = level_takes None false (λ _. ⊥) leaf_readers p x fits e in record { took = w.took; ends = w.ends; proper = to_spellable zero x.0 w.proper }
 item_takes (suc d) p x fits e = let w = level_takes (Some (item_at d)) true (IsSpellable d) (inside_readers (item_at d) (IsSpellable d) (item_takes d)) p x fits e in record { took = w.took; ends = w.ends; proper = to_spellable (suc d) x.0 w.proper }
 

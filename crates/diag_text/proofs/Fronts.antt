@@ -7,8 +7,8 @@ use Rattle.std.proofs.lemmas.Slice.Eq.{starts_is}
 use Rattle.cbor_core.specs.declared.item.Item.{Item, out-Item}
 use Rattle.cbor_core.specs.declared.item.Item.TheOpen.{Item-F}
 use Rattle.cbor_core.specs.declared.item.Pair.{Pair}
-use Rattle.diag_text.specs.Reading.{begins}
-use Rattle.diag_text.specs.Faulty.{Starts, Stops, EndsBy, Ends}
+use Rattle.cbor_heads.specs.Place.{begins}
+use Rattle.diag_text.specs.Faulty.{Starts, EndsNumber, EndsBy, Ends}
 
 pub begins_is : (token bytes : List ℕ) → begins token bytes ≡ true → bytes ≡ token ++ drop (length token) bytes
 begins_is token bytes e = (starts_is Decides-eqb bytes token (begins token bytes) refl).0 e
@@ -30,22 +30,22 @@ not_begins token text none = elim (cases_Bool (begins token text)) [ inl e ↦ a
 
 -- ---- behind an item
 
-pub stops_by : (c : ℕ) (more : List ℕ) → is_ascii_digit c ≡ false → begins (codes "(") (c ∷ more) ≡ false → Stops (c ∷ more)
+pub stops_by : (c : ℕ) (more : List ℕ) → is_ascii_digit c ≡ false → begins (codes "(") (c ∷ more) ≡ false → EndsNumber (c ∷ more)
 stops_by c more digit bracket = (digit, not_starts (codes "(") (c ∷ more) bracket)
 
-pub stops_comma : (more : List ℕ) → Stops (codes ", " ++ more)
+pub stops_comma : (more : List ℕ) → EndsNumber (codes ", " ++ more)
 stops_comma more = stops_by 44 (32 ∷ more) refl refl
 
-pub stops_colon : (more : List ℕ) → Stops (codes ": " ++ more)
+pub stops_colon : (more : List ℕ) → EndsNumber (codes ": " ++ more)
 stops_colon more = stops_by 58 (32 ∷ more) refl refl
 
-pub stops_bracket : (more : List ℕ) → Stops (codes ")" ++ more)
+pub stops_bracket : (more : List ℕ) → EndsNumber (codes ")" ++ more)
 stops_bracket more = stops_by 41 more refl refl
 
-pub stops_end : Stops []
+pub stops_end : EndsNumber []
 stops_end = (tt, not_starts (codes "(") [] refl)
 
-ends_by : (l : Item-F Item Pair) (more : List ℕ) → Stops more → EndsBy l more
+ends_by : (l : Item-F Item Pair) (more : List ℕ) → EndsNumber more → EndsBy l more
 ends_by (Item-F.Unsigned n) more stop = stop
 ends_by (Item-F.Negative n) more stop = stop.0
 ends_by (Item-F.Bytes bytes) more stop = tt
@@ -57,5 +57,5 @@ ends_by (Item-F.Truth b) more stop = tt
 ends_by Item-F.Null more stop = tt
 
 -- where a number ends, each item does
-pub stops_ends : (x : Item) (more : List ℕ) → Stops more → Ends x more
+pub stops_ends : (x : Item) (more : List ℕ) → EndsNumber more → Ends x more
 stops_ends x more stop = ends_by (out-Item x) more stop

@@ -8,19 +8,21 @@ use Rattle.std.proofs.lemmas.Fmt.{decimal_is_IsNumeral_wide}
 use Rattle.std.proofs.lemmas.Str.Parse.{digit_at}
 use Rattle.cbor_core.specs.declared.item.Item.{Item}
 use Rattle.cbor_core.specs.declared.item.Item.TheVariants as i
-use Rattle.cbor_heads.specs.Place.{Place, skip}
+use Rattle.cbor_heads.specs.Place.{Place, skip, begins}
 use Rattle.cbor_core.proofs.Public.Levels.{to_spellable}
 use Rattle.diag_text.specs.Printed.{hex_byte, escaped}
-use Rattle.diag_text.specs.Reading.{Outcome, Reader, ◌>>=◌, begins, digits, number_of, number_by, number_at, hex_guess, text_guess, pieces_at, bytes_at, text_at, array_at, map_at, tag_at, number_or_tag, negative_by, text_by, item_by, item_at}
+use Rattle.cbor_heads.specs.Reading.{Outcome, Reader, ◌>>=◌, nested}
+use Rattle.diag_text.specs.Reading.{digits, numeral_value, number_by, number_at, hex_guess, text_guess, pieces_at, bytes_at, text_at, array_at, map_at, tag_at, number_or_tag, negative_by, text_by, item_by, item_at}
 use Rattle.diag_text.specs.Faulty.{HasScalar, HasTag, Opens}
 use Rattle.diag_text.proofs.Fronts.{begins_is, not_starts}
 use Rattle.diag_text.proofs.Texts.{printed_Truth, printed_Null}
-use Rattle.diag_text.proofs.Takes.{done, failed, chosen, err_is, not_err, NumberTook, number_takes}
+use Rattle.cbor_heads.proofs.Public.Outcomes.{done, failed, chosen, err_is, not_err}
+use Rattle.diag_text.proofs.Takes.{NumberTook, number_takes}
 use Rattle.diag_text.proofs.Again.{place, digits_bracket, number_again}
 use Rattle.diag_text.proofs.Reread.{scalar_again}
 use Rattle.diag_text.proofs.Found.{Whole, word_takes, bytes_takes, string_takes, negative_takes, number_or_tag_leaf}
 
-pub data Level (inner : Option (Reader Item)) (p : Place) (o : Outcome Item) : Type 0 where
+pub data Level (inner : Option (Reader ℕ Item)) (p : Place) (o : Outcome ℕ Item) : Type 0 where
   scalar : (x : Item × Place) → o ≡ Ok x → HasScalar p.rest → Level inner p o
   nothing : o ≡ Err p.at → (Opens p.rest → ⊥) → Level inner p o
   square : begins (codes "[") p.rest ≡ true → array_at inner p.at (skip 1 p) ≡ o → Level inner p o
@@ -48,7 +50,7 @@ number_err_by at ds p None b e = err_is {A = ℕ × Place} at b e
 number_err_by at ds p (Some n) b e = absurd (not_err (n, skip (length ds) p) b e)
 
 number_err : (at limit : ℕ) (p : Place) (b : ℕ) → number_at at limit p ≡ Err b → at ≡ b
-number_err at limit p b e = number_err_by at (digits p.rest) p (number_of limit (digits p.rest)) b e
+number_err at limit p b e = number_err_by at (digits p.rest) p (numeral_value limit (digits p.rest)) b e
 
 -- ---- no container's mark
 
@@ -90,13 +92,13 @@ scalar_stands : (p : Place) (x : Item × Place) → Whole false (λ _. ⊥) p x 
 scalar_stands p x w = record { item = x.0; more = x.1.rest; proper = to_spellable zero x.0 w.proper; stands = record { front = w.took.rest; ends = w.ends } }
 
 -- an item that is no container and stands in front is not refused
-pub scalar_read : (inner : Option (Reader Item)) (p : Place) (at : ℕ) → item_by inner p ≡ Err at → HasScalar p.rest → ⊥
+pub scalar_read : (inner : Option (Reader ℕ Item)) (p : Place) (at : ℕ) → item_by inner p ≡ Err at → HasScalar p.rest → ⊥
 scalar_read inner p at e h =
     let read = scalar_again inner h.item h.proper p.at h.more h.stands.ends in
     let ok = ap (λ (s : List ℕ). item_by inner (place p.at s)) h.stands.front ∙ read in
     cc
 
-module _ (inner : Option (Reader Item)) (p : Place) (o : Outcome Item) (fits : length p.rest < 2 ^ 64) where
+module _ (inner : Option (Reader ℕ Item)) (p : Place) (o : Outcome ℕ Item) (fits : length p.rest < 2 ^ 64) where
   -- a token that opens no container is refused
   refused : (token : List ℕ) (b : ℕ) → p.at ≡ b → failed b ≡ o → begins token p.rest ≡ true → (Opens (token ++ drop (length token) p.rest) → ⊥) → Level inner p o
   refused token b at e here closed = nothing (sym e ∙ ap (λ (k : ℕ). failed k) (sym at)) (λ opens. closed (subst Opens (begins_is token p.rest here) opens))
@@ -104,25 +106,25 @@ module _ (inner : Option (Reader Item)) (p : Place) (o : Outcome Item) (fits : l
   stands : (x : Item × Place) → done x ≡ o → Whole false (λ _. ⊥) p x → Level inner p o
   stands x e w = scalar x (sym e) (scalar_stands p x w)
 
-  bytes_level : (r : Outcome (List ℕ)) → bytes_at p.at (skip 2 p) ≡ r → begins (codes "h'") p.rest ≡ true → (r >>= λ x. Ok (i.Bytes x.0, x.1)) ≡ o → Level inner p o
+  bytes_level : (r : Outcome ℕ (List ℕ)) → bytes_at p.at (skip 2 p) ≡ r → begins (codes "h'") p.rest ≡ true → (r >>= λ x. Ok (i.Bytes x.0, x.1)) ≡ o → Level inner p o
   bytes_level (Err b) is here e = refused (codes "h'") b (pieces_err hex_byte hex_guess (codes "'") p.at (length (skip 2 p).rest) [] (skip 2 p) b is) e here (no_mark 104 (39 ∷ drop 2 p.rest) refl refl refl)
   bytes_level (Ok x) is here e = stands (i.Bytes x.0, x.1) e (bytes_takes false (λ _. ⊥) p p.at (i.Bytes x.0, x.1) here fits (rw is refl))
 
-  text_level : (r : Outcome (List ℕ)) → text_at p.at (skip 1 p) ≡ r → begins (codes "\"") p.rest ≡ true → (r >>= text_by p.at) ≡ o → Level inner p o
+  text_level : (r : Outcome ℕ (List ℕ)) → text_at p.at (skip 1 p) ≡ r → begins (codes "\"") p.rest ≡ true → (r >>= text_by p.at) ≡ o → Level inner p o
   text_level (Err b) is here e = refused (codes "\"") b (pieces_err escaped text_guess (codes "\"") p.at (length (skip 1 p).rest) [] (skip 1 p) b is) e here (no_mark 34 (drop 1 p.rest) refl refl refl)
   text_level (Ok x) is here e = elim (chosen (is_utf8 x.0) (Ok (i.Text x.0, x.1)) (Err p.at) o e) [
     | inl fine ↦ stands (i.Text x.0, x.1) fine.1 (string_takes false (λ _. ⊥) p p.at (i.Text x.0, x.1) here fits (rw (is, fine.0) refl))
     | inr wrong ↦ refused (codes "\"") p.at refl wrong.1 here (no_mark 34 (drop 1 p.rest) refl refl refl)
   ]
 
-  negative_level : (r : Outcome ℕ) → number_at p.at (2 ^ 64 + 1) (skip 1 p) ≡ r → begins (codes "-") p.rest ≡ true → (r >>= negative_by p.at) ≡ o → Level inner p o
+  negative_level : (r : Outcome ℕ ℕ) → number_at p.at (2 ^ 64 + 1) (skip 1 p) ≡ r → begins (codes "-") p.rest ≡ true → (r >>= negative_by p.at) ≡ o → Level inner p o
   negative_level (Err b) is here e = refused (codes "-") b (number_err p.at (2 ^ 64 + 1) (skip 1 p) b is) e here (no_mark 45 (drop 1 p.rest) refl refl refl)
   negative_level (Ok x) is here e = elim (chosen (nat_lt 0 x.0) (Ok (i.Negative (x.0 - 1), x.1)) (Err p.at) o e) [
     | inl some ↦ stands (i.Negative (x.0 - 1), x.1) some.1 (negative_takes false (λ _. ⊥) p p.at (i.Negative (x.0 - 1), x.1) here (rw (is, some.0) refl))
     | inr none ↦ refused (codes "-") p.at refl none.1 here (no_mark 45 (drop 1 p.rest) refl refl refl)
   ]
 
-  number_level : (r : Outcome ℕ) → number_at p.at (2 ^ 64) p ≡ r → begins (codes "[") p.rest ≡ false → begins (codes "{") p.rest ≡ false → (r >>= number_or_tag inner p.at) ≡ o → Level inner p o
+  number_level : (r : Outcome ℕ ℕ) → number_at p.at (2 ^ 64) p ≡ r → begins (codes "[") p.rest ≡ false → begins (codes "{") p.rest ≡ false → (r >>= number_or_tag inner p.at) ≡ o → Level inner p o
   number_level (Err b) is s u e = nothing (sym e ∙ ap (λ (k : ℕ). failed k) (sym (number_err p.at (2 ^ 64) p b is)))
       (λ opens. elim opens [ inl a ↦ not_starts (codes "[") p.rest s a | inr more ↦ elim more [ inl a ↦ not_starts (codes "{") p.rest u a | inr t ↦ no_number p b is t ] ])
   number_level (Ok a) is s u e =
@@ -162,14 +164,14 @@ module _ (inner : Option (Reader Item)) (p : Place) (o : Outcome Item) (fits : l
 -- ---- no bytes
 
 number_empty : (b : ℕ) → number_at b (2 ^ 64) (place b []) ≡ Err b
-unfolding number_of
+unfolding numeral_value
 number_empty b = let d = decimal_first 0 (omega arith) in rw d.2 refl
 
-by_empty : (inner : Option (Reader Item)) (b : ℕ) → item_by inner (place b []) ≡ Err b
+by_empty : (inner : Option (Reader ℕ Item)) (b : ℕ) → item_by inner (place b []) ≡ Err b
 by_empty inner b = rw (number_empty b) refl
 
 -- where nothing stands, the item is refused
 pub item_empty : (d b : ℕ) → item_at d (place b []) ≡ Err b
-unfolding item_at
+unfolding nested
 item_empty zero b = by_empty None b
 item_empty (suc d) b = by_empty (Some (item_at d)) b

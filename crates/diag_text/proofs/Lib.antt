@@ -1,15 +1,14 @@
-pub mod Characters
-pub mod Fronts
-pub mod Texts
-pub mod Depths
-pub mod Digits
-pub mod Takes
-pub mod Loops
-pub mod Found
-pub mod Again
-pub mod Reread
-pub mod Exact
-pub mod Level
-pub mod Halts
-pub mod Faults
-pub mod Refused
+mod Characters
+mod Fronts
+mod Texts
+mod Digits
+mod Takes
+mod Loops
+mod Found
+mod Again
+mod Reread
+mod Exact
+mod Level
+mod Halts
+mod Faults
+mod Refused

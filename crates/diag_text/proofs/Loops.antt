@@ -3,13 +3,14 @@ use Rattle.std.proofs.Common.{◌≡◌, ℕ, suc, ◌+◌, ◌-◌, ◌<◌, �
 use Rattle.cbor_core.specs.declared.item.Item.{Item}
 use Rattle.cbor_core.specs.declared.item.Pair.{Pair}
 use Rattle.cbor_core.specs.Spelling.{spelling}
-use Rattle.cbor_heads.specs.Place.{Place, skip}
+use Rattle.cbor_heads.specs.Place.{Place, skip, begins}
 use Rattle.cbor_core.specs.Faulty.{last_key}
 use Rattle.diag_text.specs.declared.fault.DiagFault.{DiagFault}
 use Rattle.diag_text.specs.declared.fault.DiagFault.TheVariants as faults
-use Rattle.diag_text.specs.Reading.{Outcome, Reader, Fails, begins, pieces_at, parts_at, member_at}
+use Rattle.cbor_heads.specs.Reading.{Outcome, Reader, Stops}
+use Rattle.diag_text.specs.Reading.{pieces_at, parts_at, member_at, place_in}
 
-module _ (spell : ℕ → List ℕ) (guess : List ℕ → ℕ) (close : List ℕ) (at n k : ℕ) (found : List ℕ) (p : Place) (total : Outcome (List ℕ))
+module _ (spell : ℕ → List ℕ) (guess : List ℕ → ℕ) (close : List ℕ) (at n k : ℕ) (found : List ℕ) (p : Place) (total : Outcome ℕ (List ℕ))
     (so_far : pieces_at spell guess close at (n - k) found p ≡ total) where
   pub piece_closes : k < n → begins close p.rest ≡ true → total ≡ Ok (found, skip (length close) p)
   unfolding pieces_at
@@ -44,9 +45,9 @@ module _ (spell : ℕ → List ℕ) (guess : List ℕ → ℕ) (close : List ℕ
       let guessed : v ≡ guess p.rest = value ∙ ap (λ (x : Place). guess x.rest) place in
       rw (longer, behind_is, place, guessed) next
 
-module _ {X : Type 0} (part : List X → Reader X) (close : List ℕ) (n k : ℕ) (found : List X) (p : Place) (total : Outcome (List X))
+module _ {X : Type 0} (part : List X → Reader ℕ X) (close : List ℕ) (n k : ℕ) (found : List X) (p : Place) (total : Outcome ℕ (List X))
     (so_far : parts_at part close (n - k) found p ≡ total) where
-  pub part_fails : (e : DiagFault) → k < n → Fails (part found p) e → Fails total e
+  pub part_fails : (e : DiagFault) → k < n → Stops (part found p) (place_in e) → Stops total (place_in e)
   unfolding parts_at
   part_fails faults.NoMemory lt here = tt
   part_fails (faults.Bad f) lt here = let e : n - k ≡ suc (n - (k + 1)) = omega arith in sym so_far ∙ (rw (e, here) refl)
@@ -87,7 +88,7 @@ module _ {X : Type 0} (part : List X → Reader X) (close : List ℕ) (n k : ℕ
       let one : begins (codes ", ") q.rest ≡ true = subst (λ (y : Place). begins (codes ", ") y.rest ≡ true) place (sym again ∙ here) in
       rw (longer, behind_is, place) (part_next x q lt read (sym tested ∙ other) one)
 
-pub member_is : (inner : Reader Item) (found : List Item) (p : Place) → member_at inner found p ≡ inner p
+pub member_is : (inner : Reader ℕ Item) (found : List Item) (p : Place) → member_at inner found p ≡ inner p
 unfolding member_at
 member_is inner found p = refl
 

@@ -3,11 +3,12 @@ use Rattle.std.proofs.Common.{◌≡◌, ℕ, zero, suc, ◌+◌, ◌^◌, ◌<�
 use Rattle.std.specs.List.{AllByRecursion}
 use Rattle.cbor_core.specs.declared.item.Item.{Item}
 use Rattle.cbor_core.specs.declared.item.Pair.{Pair}
-use Rattle.cbor_heads.specs.Place.{Place, skip, behind as place_behind}
+use Rattle.cbor_heads.specs.Place.{Place, skip, behind, begins}
 use Rattle.cbor_core.specs.Spelling.{spelling, bytes_below, IsSpellable}
 use Rattle.cbor_core.specs.Faulty.{last_key}
 use Rattle.diag_text.specs.Printed.{printed, pair_printed}
-use Rattle.diag_text.specs.Reading.{Outcome, Reader, ◌>>=◌, begins, behind, parts_at, inside_at, member_at, pair_at, tag_at, plain_at, item_by, item_at}
+use Rattle.cbor_heads.specs.Reading.{Outcome, Reader, ◌>>=◌, nested}
+use Rattle.diag_text.specs.Reading.{past, parts_at, inside_at, member_at, pair_at, tag_at, plain_at, item_by, item_at}
 use Rattle.diag_text.specs.Faulty.{Starts, Stands, HasTag, Begins, followed, NeitherMark, PartFault, ArrayFault, ColonFault, KeyFault, MapFault, TagFault, Faulty}
 use Rattle.diag_text.proofs.Fronts.{starts_of, not_begins}
 use Rattle.diag_text.proofs.Texts.{pair_printed_out}
@@ -19,11 +20,11 @@ use Rattle.diag_text.proofs.Level.{Level, level, scalar, nothing, square, curly,
 use Rattle.diag_text.proofs.Halts.{behind_then, Halts, parts_halt}
 
 -- what is faulty is refused by a reader
-abbrev pub RefusedBy : Reader Item → (Place → ℕ → Type 0) → Type 0
+abbrev pub RefusedBy : Reader ℕ Item → (Place → ℕ → Type 0) → Type 0
 RefusedBy inner F = (p : Place) (at : ℕ) → length p.rest < 2 ^ 64 → F p at → inner p ≡ Err at
 
-module _ (inner : Reader Item) (P : Item → Type 0) (F : Place → ℕ → Type 0) (law : Law inner P) (refuses : RefusedBy inner F) (empty : (b : ℕ) → inner (place b []) ≡ Err b) where
-  stands_read : (x : Item) → P x → (q : Place) (more : List ℕ) → Stands x q.rest more → inner q ≡ Ok (x, place_behind q.at (printed x) more)
+module _ (inner : Reader ℕ Item) (P : Item → Type 0) (F : Place → ℕ → Type 0) (law : Law inner P) (refuses : RefusedBy inner F) (empty : (b : ℕ) → inner (place b []) ≡ Err b) where
+  stands_read : (x : Item) → P x → (q : Place) (more : List ℕ) → Stands x q.rest more → inner q ≡ Ok (x, behind q.at (printed x) more)
   stands_read x good q more s = ap (λ (t : List ℕ). inner (place q.at t)) s.front ∙ law.again x good q.at more s.ends
 
   -- ---- members
@@ -34,7 +35,7 @@ module _ (inner : Reader Item) (P : Item → Type 0) (F : Place → ℕ → Type
   member_halts : (found : List Item) (q : Place) (at : ℕ) → length q.rest < 2 ^ 64 → PartFault P F (NeitherMark (codes "]")) q at → Halts (member_at inner) (codes "]") found q at
   member_halts found q at fits (inl f) = inl (member_is inner found q ∙ refuses q at fits f)
   member_halts found q at fits (inr w) = inr (record {
-    got = (w.item, place_behind q.at (printed w.item) w.more);
+    got = (w.item, behind q.at (printed w.item) w.more);
     read = member_is inner found q ∙ stands_read w.item w.proper q w.more w.stands;
     unclosed = not_begins (codes "]") w.more w.wrong.0;
     comma = not_begins (codes ", ") w.more w.wrong.1;
@@ -51,28 +52,28 @@ module _ (inner : Reader Item) (P : Item → Type 0) (F : Place → ℕ → Type
   pair_empty found b = rw (empty b) refl
 
   pair_after : (found : List Pair) (q : Place) (key : Item × Place) → inner q ≡ Ok key → bytes_below (last_key [] found) (spelling key.0) ≡ true
-      → pair_at inner found q ≡ behind (codes ": ") key.1 (λ r. inner r >>= λ value. Ok (record { key = key.0; value = value.0 }, value.1))
+      → pair_at inner found q ≡ past (codes ": ") key.1 (λ r. inner r >>= λ value. Ok (record { key = key.0; value = value.0 }, value.1))
   pair_after found q key read below = rw (read, below) refl
 
-  abbrev value_by : Item → Place → Outcome Pair
+  abbrev value_by : Item → Place → Outcome ℕ Pair
   value_by key r = inner r >>= λ value. Ok (record { key = key; value = value.0 }, value.1)
 
-  value_read : (key : Item) (n : ℕ) (rest more : List ℕ) → rest ≡ codes ": " ++ more → behind {A = Pair} (codes ": ") (place n rest) (value_by key) ≡ value_by key (place (n + 2) more)
-  value_read key n rest more is = ap (λ (t : List ℕ). behind {A = Pair} (codes ": ") (place n t) (value_by key)) is ∙ behind_again {A = Pair} (codes ": ") n more (value_by key)
+  value_read : (key : Item) (n : ℕ) (rest more : List ℕ) → rest ≡ codes ": " ++ more → past {A = Pair} (codes ": ") (place n rest) (value_by key) ≡ value_by key (place (n + 2) more)
+  value_read key n rest more is = ap (λ (t : List ℕ). past {A = Pair} (codes ": ") (place n t) (value_by key)) is ∙ behind_again {A = Pair} (codes ": ") n more (value_by key)
 
-  colon_halts : (found : List Pair) (q : Place) (at : ℕ) (key : Item) (more : List ℕ) → length more < 2 ^ 64 → inner q ≡ Ok (key, place_behind q.at (printed key) more) → bytes_below (last_key [] found) (spelling key) ≡ true
-      → ColonFault P F (place_behind q.at (printed key) more) at → Halts (pair_at inner) (codes "}") found q at
+  colon_halts : (found : List Pair) (q : Place) (at : ℕ) (key : Item) (more : List ℕ) → length more < 2 ^ 64 → inner q ≡ Ok (key, behind q.at (printed key) more) → bytes_below (last_key [] found) (spelling key) ≡ true
+      → ColonFault P F (behind q.at (printed key) more) at → Halts (pair_at inner) (codes "}") found q at
   colon_halts found q at key more fits read below (inl none) =
-      inl (pair_after found q (key, place_behind q.at (printed key) more) read below ∙ (rw (not_begins (codes ": ") more none.0) (ap (λ (k : ℕ). Err k) (sym none.1))))
+      inl (pair_after found q (key, behind q.at (printed key) more) read below ∙ (rw (not_begins (codes ": ") more none.0) (ap (λ (k : ℕ). Err k) (sym none.1))))
   colon_halts found q at key more fits read below (inr some) =
       let n : ℕ = q.at + length (printed key) in
       let m : List ℕ = some.0 in
       let left : length m < 2 ^ 64 = omega (arith, fits, ap length some.1, length-append (codes ": ") m) in
-      let step = pair_after found q (key, place_behind q.at (printed key) more) read below ∙ value_read key n more m some.1 in
+      let step = pair_after found q (key, behind q.at (printed key) more) read below ∙ value_read key n more m some.1 in
       elim some.2 [
         | inl f ↦ inl (step ∙ (rw (refuses (place (n + 2) m) at left f) refl))
         | inr w ↦ inr (record {
-          got = (record { key = key; value = w.item }, place_behind (n + 2) (printed w.item) w.more);
+          got = (record { key = key; value = w.item }, behind (n + 2) (printed w.item) w.more);
           read = step ∙ (rw (stands_read w.item w.proper (place (n + 2) m) w.more w.stands) refl);
           unclosed = not_begins (codes "}") w.more w.wrong.0;
           comma = not_begins (codes ", ") w.more w.wrong.1;
@@ -96,7 +97,7 @@ module _ (inner : Reader Item) (P : Item → Type 0) (F : Place → ℕ → Type
 
   -- ---- containers
 
-  inside_err : {X : Type 0} (part : List X → Reader X) (close : List ℕ) (q : Place) (at : ℕ) → begins close q.rest ≡ false → parts_at part close (length q.rest) [] q ≡ Err at → inside_at part close q ≡ Err at
+  inside_err : {X : Type 0} (part : List X → Reader ℕ X) (close : List ℕ) (q : Place) (at : ℕ) → begins close q.rest ≡ false → parts_at part close (length q.rest) [] q ≡ Err at → inside_at part close q ≡ Err at
   inside_err part close q at open_still e = rw open_still e
 
   array_err : (p : Place) (at : ℕ) → length p.rest < 2 ^ 64 → ArrayFault P F p at → item_by (Some inner) p ≡ Err at
@@ -105,8 +106,8 @@ module _ (inner : Reader Item) (P : Item → Type 0) (F : Place → ℕ → Type
       let text : List ℕ = front ++ a.more in
       let b : ℕ = p.at + 1 in
       let left : length a.more < 2 ^ 64 = omega (arith, fits, ap length a.stands, length-append front a.more) in
-      let next : PartFault P F (NeitherMark (codes "]")) (place_behind b front a.more) at = subst (λ (r : Place). PartFault P F (NeitherMark (codes "]")) r at) (sym (behind_then p (codes "[") (place b []) front a.more refl)) a.next in
-      let halts = member_halts a.members (place_behind b front a.more) at left next in
+      let next : PartFault P F (NeitherMark (codes "]")) (behind b front a.more) at = subst (λ (r : Place). PartFault P F (NeitherMark (codes "]")) r at) (sym (behind_then p (codes "[") (place b []) front a.more refl)) a.next in
+      let halts = member_halts a.members (behind b front a.more) at left next in
       let parts = parts_halt (member_at inner) printed (codes "]") member_empty square_mark a.members [] (length text) b a.more at (each_member inner P law [] a.members a.proper) (omega arith) halts in
       let inside = inside_err (member_at inner) (codes "]") (place b text) at (members_unclosed a.members a.more a.proper a.unclosed) parts in
       let step : item_by (Some inner) (place p.at (codes "[" ++ text)) ≡ Err at = rw inside refl in
@@ -118,9 +119,9 @@ module _ (inner : Reader Item) (P : Item → Type 0) (F : Place → ℕ → Type
       let text : List ℕ = front ++ a.more in
       let b : ℕ = p.at + 1 in
       let left : length a.more < 2 ^ 64 = omega (arith, fits, ap length a.stands, length-append front a.more) in
-      let next : F (place_behind b front a.more) at ⊎ KeyFault P F (last_key [] a.pairs) (place_behind b front a.more) at =
+      let next : F (behind b front a.more) at ⊎ KeyFault P F (last_key [] a.pairs) (behind b front a.more) at =
       subst (λ (r : Place). F r at ⊎ KeyFault P F (last_key [] a.pairs) r at) (sym (behind_then p (codes "{") (place b []) front a.more refl)) a.next in
-      let halts = pair_halts a.pairs (place_behind b front a.more) at left next in
+      let halts = pair_halts a.pairs (behind b front a.more) at left next in
       let parts = parts_halt (pair_at inner) pair_printed (codes "}") pair_empty curly_mark a.pairs [] (length text) b a.more at (each_pair inner P law [] a.pairs a.proper a.ascend) (omega arith) halts in
       let inside = inside_err (pair_at inner) (codes "}") (place b text) at (pairs_unclosed a.pairs a.more a.proper a.unclosed) parts in
       let step : item_by (Some inner) (place p.at (codes "{" ++ text)) ≡ Err at = rw inside refl in
@@ -152,14 +153,14 @@ has_tag p a number here =
     let front : Took p (decimal a.0 ++ codes "(") q = took_then p (decimal a.0) a.1 (codes "(") q number.took (token_took (codes "(") a.1 here) in
     record { number = a.0; small = number.below; stands = (q.rest, front.rest) }
 
-inside_nothing : (inner : Reader Item) (p : Place) (o : Outcome Item) → (Begins true p.rest → ⊥) → Level (Some inner) p o → o ≡ Err p.at
+inside_nothing : (inner : Reader ℕ Item) (p : Place) (o : Outcome ℕ Item) → (Begins true p.rest → ⊥) → Level (Some inner) p o → o ≡ Err p.at
 inside_nothing inner p o none (scalar x is h) = absurd (none (inl h))
 inside_nothing inner p o none (nothing is closed) = is
 inside_nothing inner p o none (square here is) = absurd (none (inr (refl, inl (starts_of (codes "[") p.rest here))))
 inside_nothing inner p o none (curly here is) = absurd (none (inr (refl, inr (inl (starts_of (codes "{") p.rest here)))))
 inside_nothing inner p o none (tagged a number here is) = absurd (none (inr (refl, inr (inr (has_tag p a number here)))))
 
-leaf_nothing : (p : Place) (o : Outcome Item) → (Begins false p.rest → ⊥) → Level None p o → o ≡ Err p.at
+leaf_nothing : (p : Place) (o : Outcome ℕ Item) → (Begins false p.rest → ⊥) → Level None p o → o ≡ Err p.at
 leaf_nothing p o none (scalar x is h) = absurd (none (inl h))
 leaf_nothing p o none (nothing is closed) = is
 leaf_nothing p o none (square here is) = sym is
@@ -174,7 +175,7 @@ no_part p at (inr (inr t)) = elim t.next [ inl f ↦ f | inr w ↦ w.proper ]
 
 -- what is faulty is refused
 pub item_refuses : (d : ℕ) → RefusedBy (item_at d) (Faulty d)
-unfolding item_at
+unfolding nested
 item_refuses zero p at fits (inl h) = leaf_nothing p (item_by None p) h.0 (level None p (item_by None p) fits refl) ∙ ap (λ (k : ℕ). Err k) (sym h.1)
 item_refuses zero p at fits (inr h) = absurd (no_part p at h)
 item_refuses (suc d) p at fits (inl h) = inside_nothing (item_at d) p (item_by (Some (item_at d)) p) h.0 (level (Some (item_at d)) p (item_by (Some (item_at d)) p) fits refl) ∙ ap (λ (k : ℕ). Err k) (sym h.1)

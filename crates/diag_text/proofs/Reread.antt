@@ -11,16 +11,17 @@ use Rattle.cbor_core.specs.declared.item.Item.TheOpen.{Item-F}
 use Rattle.cbor_core.specs.declared.item.Item.TheViews.{roll-Item, roll-out-Item}
 use Rattle.cbor_core.specs.declared.item.Item.TheVariants as i
 use Rattle.cbor_core.specs.declared.item.Pair.{Pair}
-use Rattle.cbor_heads.specs.Place.{Place}
+use Rattle.cbor_heads.specs.Place.{Place, begins}
 use Rattle.cbor_core.specs.Faulty.{last_key}
 use Rattle.cbor_core.specs.Spelling.{spelling, bytes_below, KeysAscend, IsSpellable}
 use Rattle.base_types.specs.Bytes.{IsBytes}
 use Rattle.cbor_core.proofs.Public.Levels.{IsWholeBy, from_spellable, has_room, IsPart}
 use Rattle.diag_text.specs.Printed.{hex_byte, escaped, listed, printed, pair_printed}
-use Rattle.diag_text.specs.Reading.{Outcome, Reader, begins, hex_guess, text_guess, inside_at, member_at, pair_at, plain_at, item_by, item_at}
+use Rattle.cbor_heads.specs.Reading.{Outcome, Reader, nested}
+use Rattle.diag_text.specs.Reading.{hex_guess, text_guess, inside_at, member_at, pair_at, plain_at, item_by, item_at}
 use Rattle.diag_text.proofs.Texts.{printed_Unsigned, printed_Negative, printed_Bytes, printed_Text, printed_Array, printed_Map, printed_Tag, printed_Truth, printed_Null, pair_printed_out}
 use Rattle.diag_text.proofs.Loops.{member_is, last_key_more}
-use Rattle.diag_text.specs.Faulty.{NoDigit, Stops, EndsBy, Ends}
+use Rattle.diag_text.specs.Faulty.{NoDigit, EndsNumber, EndsBy, Ends}
 use Rattle.diag_text.proofs.Fronts.{begins_front, not_begins, stops_colon, stops_bracket, stops_ends}
 use Rattle.diag_text.proofs.Again.{place, skip_front, hex_guess_back, hex_not_close, pieces_again, number_again, digits_stop, digits_bracket, AgainBy, IsMark, square as square_mark, curly as curly_mark, Each, parts_again, flat_long, form_of, text_back_by, text_open_by, text_some_by}
 
@@ -60,21 +61,21 @@ front_rolled room P (Item-F.Truth false) h = literal 102 _ (codes "alse") (λ e.
 front_rolled room P Item-F.Null h = literal 110 _ (codes "ull") (λ e. omega arith) (λ e. omega arith) (ap printed i.rolls-Null ∙ printed_Null)
 
 -- what an inner reader reads again, and how its texts start
-pub record Law (inner : Reader Item) (Q : Item → Type 0) : Type 0 where
+pub record Law (inner : Reader ℕ Item) (Q : Item → Type 0) : Type 0 where
   pub again : (x : Item) → Q x → AgainBy inner printed (Ends x) x
   pub front : (x : Item) → Q x → Front (printed x)
 
-abbrev ReadsText : (Place → Outcome Item) → Item → (List ℕ → Type 0) → List ℕ → Type 0
+abbrev ReadsText : (Place → Outcome ℕ Item) → Item → (List ℕ → Type 0) → List ℕ → Type 0
 ReadsText read x ends text = (b : ℕ) (more : List ℕ) → ends more → read (place b (text ++ more)) ≡ Ok (x, place (b + length text) more)
 
-by_text : (read : Reader Item) (x : Item) (ends : List ℕ → Type 0) (text : List ℕ) → printed x ≡ text → ReadsText read x ends text → AgainBy read printed ends x
+by_text : (read : Reader ℕ Item) (x : Item) (ends : List ℕ → Type 0) (text : List ℕ) → printed x ≡ text → ReadsText read x ends text → AgainBy read printed ends x
 by_text read x ends text is law = subst (λ (t : List ℕ). ReadsText read x ends t) (sym is) law
 
 -- an item whose text ends by itself
 abbrev Anything : List ℕ → Type 0
 Anything more = Unit {0}
 
-module _ (inner : Option (Reader Item)) where
+module _ (inner : Option (Reader ℕ Item)) where
   bytes_again : (bytes : List ℕ) → AllByRecursion (λ v. v < 256) bytes → AgainBy (item_by inner) printed Anything (i.Bytes bytes)
   bytes_again bytes each = by_text (item_by inner) (i.Bytes bytes) Anything _ (printed_Bytes bytes) (λ b more stop.
       (let text : List ℕ = flat_map hex_byte bytes in
@@ -130,14 +131,14 @@ module _ (inner : Option (Reader Item)) where
   pub plain_is : (n b : ℕ) (more : List ℕ) → n < 10 ^ 64 → item_by inner (place b (decimal n ++ more)) ≡ plain_at inner (place b (decimal n ++ more))
   plain_is n b more lt = let numeral = (decimal_is_IsNumeral_wide n lt).0 in digits_plain (decimal n) more b numeral.0 numeral.1
 
-  unsigned_again : (n : ℕ) → n < 2 ^ 64 → AgainBy (item_by inner) printed Stops (i.Unsigned n)
-  unsigned_again n lt = by_text (item_by inner) (i.Unsigned n) Stops (decimal n) (printed_Unsigned n) (λ b more stop.
+  unsigned_again : (n : ℕ) → n < 2 ^ 64 → AgainBy (item_by inner) printed EndsNumber (i.Unsigned n)
+  unsigned_again n lt = by_text (item_by inner) (i.Unsigned n) EndsNumber (decimal n) (printed_Unsigned n) (λ b more stop.
       (let read = number_again b (2 ^ 64) n b more lt (omega arith) (digits_stop more stop.0) in
       plain_is n b more (omega arith) ∙ (rw (read, not_begins (codes "(") more stop.1) refl)))
 
 -- ---- containers
 
-inside_again : {X : Type 0} (part : List X → Reader X) (text : X → List ℕ) (close : List ℕ) (mark : IsMark close) (xs : List X) (b : ℕ) (more : List ℕ)
+inside_again : {X : Type 0} (part : List X → Reader ℕ X) (text : X → List ℕ) (close : List ℕ) (mark : IsMark close) (xs : List X) (b : ℕ) (more : List ℕ)
     → Each part text close mark [] xs → 1 ≤ length close → ((x : X) (others : List X) → xs ≡ x ∷ others → begins close (listed text (x ∷ others) ++ (close ++ more)) ≡ false)
     → inside_at part close (place b (listed text xs ++ (close ++ more))) ≡ Ok (xs, place (b + length (listed text xs ++ close)) more)
 inside_again part text close mark [] b more each some open_still = rw (begins_front close more, skip_front b close more) refl
@@ -147,12 +148,12 @@ inside_again part text close mark (x ∷ xs) b more each some open_still =
     let room : length (x ∷ xs) ≤ length bytes = omega (arith, long, some, length-append (listed text (x ∷ xs)) (close ++ more), length-append close more, length-append (text x) (flat_map (λ y. codes ", " ++ text y) xs)) in
     rw (open_still x xs refl) (parts_again part text close mark xs x [] (length bytes) b more each room)
 
-module _ (inner : Reader Item) (Q : Item → Type 0) (law : Law inner Q) where
+module _ (inner : Reader ℕ Item) (Q : Item → Type 0) (law : Law inner Q) where
   pub each_member : (found xs : List Item) → AllByRecursion Q xs → Each (member_at inner) printed (codes "]") square_mark found xs
   each_member found [] all = tt
   each_member found (x ∷ xs) all = ((λ b more stop. (member_is inner found (place b (printed x ++ more)) ∙ law.again x all.0 b more (stops_ends x more stop))), each_member (found ++ x ∷ []) xs all.1)
 
-  pair_again : (found : List Pair) (p : Pair) → Q p.key → Q p.value → bytes_below (last_key [] found) (spelling p.key) ≡ true → AgainBy (pair_at inner found) pair_printed Stops p
+  pair_again : (found : List Pair) (p : Pair) → Q p.key → Q p.value → bytes_below (last_key [] found) (spelling p.key) ≡ true → AgainBy (pair_at inner found) pair_printed EndsNumber p
   pair_again found p key value below b more stop =
       let k : List ℕ = printed p.key in
       let v : List ℕ = printed p.value in
@@ -221,8 +222,8 @@ text_each : (bytes : List ℕ) → AllByRecursion (λ v. Unit {0}) bytes
 text_each [] = tt
 text_each (v ∷ vs) = (tt, text_each vs)
 
-inside_layer : (inner : Reader Item) (Q : Item → Type 0) → Law inner Q → (l : Item-F Item Pair) → IsWholeBy true Q l → AgainBy (item_by (Some inner)) printed (EndsBy l) (roll-Item l)
-inside_layer inner Q law (Item-F.Unsigned n) h = subst (AgainBy (item_by (Some inner)) printed Stops) (sym (i.rolls-Unsigned n)) (unsigned_again (Some inner) n h)
+inside_layer : (inner : Reader ℕ Item) (Q : Item → Type 0) → Law inner Q → (l : Item-F Item Pair) → IsWholeBy true Q l → AgainBy (item_by (Some inner)) printed (EndsBy l) (roll-Item l)
+inside_layer inner Q law (Item-F.Unsigned n) h = subst (AgainBy (item_by (Some inner)) printed EndsNumber) (sym (i.rolls-Unsigned n)) (unsigned_again (Some inner) n h)
 inside_layer inner Q law (Item-F.Negative n) h = subst (AgainBy (item_by (Some inner)) printed NoDigit) (sym (i.rolls-Negative n)) (negative_again (Some inner) n h)
 inside_layer inner Q law (Item-F.Bytes bytes) h = subst (AgainBy (item_by (Some inner)) printed Anything) (sym (i.rolls-Bytes bytes)) (bytes_again (Some inner) bytes (bytes_each bytes h.0))
 inside_layer inner Q law (Item-F.Text text) h = subst (AgainBy (item_by (Some inner)) printed Anything) (sym (i.rolls-Text text)) (text_again (Some inner) text (text_each text) h.0)
@@ -233,8 +234,8 @@ inside_layer inner Q law (Item-F.Truth true) h = subst (AgainBy (item_by (Some i
 inside_layer inner Q law (Item-F.Truth false) h = subst (AgainBy (item_by (Some inner)) printed Anything) (sym (i.rolls-Truth false)) (false_again (Some inner))
 inside_layer inner Q law Item-F.Null h = subst (AgainBy (item_by (Some inner)) printed Anything) (sym i.rolls-Null) (null_again (Some inner))
 
-leaf_layer : (inner : Option (Reader Item)) (l : Item-F Item Pair) → IsWholeBy false (λ _. ⊥) l → AgainBy (item_by inner) printed (EndsBy l) (roll-Item l)
-leaf_layer inner (Item-F.Unsigned n) h = subst (AgainBy (item_by inner) printed Stops) (sym (i.rolls-Unsigned n)) (unsigned_again inner n h)
+leaf_layer : (inner : Option (Reader ℕ Item)) (l : Item-F Item Pair) → IsWholeBy false (λ _. ⊥) l → AgainBy (item_by inner) printed (EndsBy l) (roll-Item l)
+leaf_layer inner (Item-F.Unsigned n) h = subst (AgainBy (item_by inner) printed EndsNumber) (sym (i.rolls-Unsigned n)) (unsigned_again inner n h)
 leaf_layer inner (Item-F.Negative n) h = subst (AgainBy (item_by inner) printed NoDigit) (sym (i.rolls-Negative n)) (negative_again inner n h)
 leaf_layer inner (Item-F.Bytes bytes) h = subst (AgainBy (item_by inner) printed Anything) (sym (i.rolls-Bytes bytes)) (bytes_again inner bytes (bytes_each bytes h.0))
 leaf_layer inner (Item-F.Text text) h = subst (AgainBy (item_by inner) printed Anything) (sym (i.rolls-Text text)) (text_again inner text (text_each text) h.0)
@@ -248,15 +249,15 @@ leaf_layer inner Item-F.Null h = subst (AgainBy (item_by inner) printed Anything
 pub spellable_front : (d : ℕ) (x : Item) → IsSpellable d x → Front (printed x)
 spellable_front d x h = subst (λ (y : Item). Front (printed y)) (roll-out-Item x) (front_rolled (has_room d) (IsPart d) (out-Item x) (from_spellable d x h))
 
-abbrev LayerAgain : Reader Item → Item-F Item Pair → Item → Type 0
+abbrev LayerAgain : Reader ℕ Item → Item-F Item Pair → Item → Type 0
 LayerAgain read l x = AgainBy read printed (EndsBy l) x
 
 -- an item that is no container is read, whatever stands inside containers
-pub scalar_again : (inner : Option (Reader Item)) (x : Item) → IsSpellable 0 x → AgainBy (item_by inner) printed (Ends x) x
+pub scalar_again : (inner : Option (Reader ℕ Item)) (x : Item) → IsSpellable 0 x → AgainBy (item_by inner) printed (Ends x) x
 scalar_again inner x h = subst (LayerAgain (item_by inner) (out-Item x)) (roll-out-Item x) (leaf_layer inner (out-Item x) (from_spellable 0 x h))
 
 -- the text of an item is read as that item
 pub item_again : (d : ℕ) (x : Item) → IsSpellable d x → AgainBy (item_at d) printed (Ends x) x
-unfolding item_at
+unfolding nested
 item_again zero x h = scalar_again None x h
 item_again (suc d) x h = subst (LayerAgain (item_by (Some (item_at d))) (out-Item x)) (roll-out-Item x) (inside_layer (item_at d) (IsSpellable d) (record { again = item_again d; front = spellable_front d }) (out-Item x) (from_spellable (suc d) x h))

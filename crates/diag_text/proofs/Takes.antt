@@ -3,52 +3,17 @@ use Rattle.std.proofs.Common.{◌≡◌, ℕ, zero, suc, ◌+◌, ◌^◌, ◌<�
 use Rattle.std.specs.List.{flat_map}
 use Rattle.std.specs.Str.Parse.{digits_value}
 use Rattle.std.proofs.lemmas.Bool.{cases_Bool, and_parts, eqb-true}
-use Rattle.cbor_heads.specs.Place.{Place, skip}
+use Rattle.cbor_heads.specs.Place.{Place, skip, begins}
 use Rattle.base_types.specs.Bytes.{IsBytes}
 use Rattle.diag_text.specs.Printed.{listed}
-use Rattle.diag_text.specs.Reading.{Outcome, Reader, ◌>>=◌, begins, behind, digits, same, if_decimal, number_of, number_by, number_at, pieces_at, parts_at}
+use Rattle.cbor_heads.specs.Reading.{Outcome, Reader, ◌>>=◌}
+use Rattle.diag_text.specs.Reading.{past, digits, same, if_decimal, numeral_value, number_by, number_at, pieces_at, parts_at}
 use Rattle.diag_text.specs.Faulty.{NoDigit}
+use Rattle.cbor_heads.proofs.Public.Outcomes.{bind_ok, not_ok, ok_is, chosen, held}
 use Rattle.diag_text.proofs.Fronts.{begins_is}
 use Rattle.diag_text.proofs.Digits.{take_digits, no_digit_behind}
 
--- ---- tools
-
-pub bind_ok : {A B : Type 0} (r : Outcome A) (f : A × Place → Outcome B) (y : B × Place) → (r >>= f) ≡ Ok y → (x : A × Place) × (r ≡ Ok x) × (f x ≡ Ok y)
-bind_ok (Ok x) f y e = (x, refl, e)
-bind_ok (Err d) f y e = absurd cc
-
-abbrev pub done : {A : Type 0} → A → Result A ℕ
-done x = Ok x
-
-abbrev pub failed : {A : Type 0} → ℕ → Result A ℕ
-failed at = Err at
-
-pub not_ok : {A : Type 0} (at : ℕ) (x : A) → failed at ≡ Ok x → ⊥
-not_ok at x e = cc
-
-pub ok_is : {A : Type 0} (x y : A) → done x ≡ done y → x ≡ y
-ok_is x y e = cc
-
-pub err_is : {A : Type 0} (at b : ℕ) → failed {A = A} at ≡ Err b → at ≡ b
-err_is at b e = cc
-
-pub not_err : {A : Type 0} (x : A) (at : ℕ) → done x ≡ Err at → ⊥
-not_err x at e = cc
-
--- which step failed
-pub bind_err : {A B : Type 0} (r : Outcome A) (f : A × Place → Outcome B) (at : ℕ) → (r >>= f) ≡ Err at → (r ≡ Err at) ⊎ ((x : A × Place) × (r ≡ Ok x) × (f x ≡ Err at))
-bind_err (Ok x) f at e = inr (x, refl, e)
-bind_err (Err d) f at e = inl (let h : failed d ≡ Err at = e in ap (λ (y : ℕ). Err y) (err_is d at h))
-
--- which way a test went
-pub chosen : {A : Type 0} (b : Bool) (x y z : A) → cond b x y ≡ z → ((b ≡ true) × (x ≡ z)) ⊎ ((b ≡ false) × (y ≡ z))
-chosen true x y z e = inl (refl, e)
-chosen false x y z e = inr (refl, e)
-
--- a test that held, since otherwise there would be a fault
-pub held : {A : Type 0} (b : Bool) (r : Result A ℕ) (at : ℕ) (y : A) → cond b r (Err at) ≡ Ok y → (b ≡ true) × (r ≡ Ok y)
-held true r at y e = (refl, e)
-held false r at y e = absurd cc
+-- ---- places
 
 -- a text stands between two places
 pub record Took (p : Place) (text : List ℕ) (q : Place) : Type 0 where
@@ -71,7 +36,7 @@ pub token_took : (token : List ℕ) (p : Place) → begins token p.rest ≡ true
 token_took token p e = record { rest = begins_is token p.rest e; at = refl }
 
 -- what is read behind a token
-pub behind_took : {A : Type 0} (token : List ℕ) (p : Place) (f : Place → Outcome A) (x : A × Place) → behind token p f ≡ Ok x
+pub behind_took : {A : Type 0} (token : List ℕ) (p : Place) (f : Place → Outcome ℕ A) (x : A × Place) → past token p f ≡ Ok x
     → Took p token (skip (length token) p) × (f (skip (length token) p) ≡ Ok x)
 behind_took token p f x e = let h = held (begins token p.rest) (f (skip (length token) p)) p.at x e in (token_took token p h.0, h.1)
 
@@ -127,17 +92,17 @@ pub record Parts {X : Type 0} (text : X → List ℕ) (P : List X → X → Type
   pub each : Chain P found (first ∷ others)
   pub took : Took p (listed text (first ∷ others) ++ close) x.1
 
-module _ {X : Type 0} (part : List X → Reader X) (text : X → List ℕ) (P : List X → X → Type 0) (close : List ℕ)
+module _ {X : Type 0} (part : List X → Reader ℕ X) (text : X → List ℕ) (P : List X → X → Type 0) (close : List ℕ)
     (law : (found : List X) (p : Place) (x : X × Place) → length p.rest < 2 ^ 64 → part found p ≡ Ok x → Took p (text x.0) x.1 × P found x.0) where
   pub parts_take : (n : ℕ) (found : List X) (p : Place) (x : List X × Place) → length p.rest < 2 ^ 64 → parts_at part close n found p ≡ Ok x → Parts text P close n found p x
   unfolding parts_at
   parts_take zero found p x fits e = absurd (not_ok p.at x e)
   parts_take (suc n) found p x fits e =
-      let a = bind_ok (part found p) (λ y. cond (begins close y.1.rest) (Ok (found ++ y.0 ∷ [], skip (length close) y.1)) (behind (codes ", ") y.1 (λ q. parts_at part close n (found ++ y.0 ∷ []) q))) x e in
+      let a = bind_ok (part found p) (λ y. cond (begins close y.1.rest) (Ok (found ++ y.0 ∷ [], skip (length close) y.1)) (past (codes ", ") y.1 (λ q. parts_at part close n (found ++ y.0 ∷ []) q))) x e in
       let one = law found p a.0 fits a.1 in
       let left = took_fits p (text a.0.0) a.0.1 one.0 fits in
       let now = found ++ a.0.0 ∷ [] in
-      elim (chosen (begins close a.0.1.rest) (Ok (now, skip (length close) a.0.1)) (behind (codes ", ") a.0.1 (λ q. parts_at part close n now q)) (Ok x) a.2) [
+      elim (chosen (begins close a.0.1.rest) (Ok (now, skip (length close) a.0.1)) (past (codes ", ") a.0.1 (λ q. parts_at part close n now q)) (Ok x) a.2) [
         | inl here ↦
             let is = ok_is (now, skip (length close) a.0.1) x here.1 in
             let last : text a.0.0 ++ close ≡ listed text (a.0.0 ∷ []) ++ close = ap (λ (t : List ℕ). t ++ close) (sym (append-nil (text a.0.0))) in
@@ -190,8 +155,8 @@ decimal_some ds limit n m lt e = elim (cases_Bool (same (decimal n) ds)) [
   | inr other ↦ absurd (let f : None ≡ Some m = rw other at e in cc)
 ]
 
-pub number_is : (limit : ℕ) (ds : List ℕ) (n : ℕ) → number_of limit ds ≡ Some n → IsNumber limit ds n
-unfolding number_of
+pub number_is : (limit : ℕ) (ds : List ℕ) (n : ℕ) → numeral_value limit ds ≡ Some n → IsNumber limit ds n
+unfolding numeral_value
 number_is limit ds n e = elim (cases_Bool (nat_lt (digits_value 10 ds) limit)) [
   | inl small ↦ decimal_some ds limit (digits_value 10 ds) n (ltb-true _ _ small) (rw small at e)
   | inr large ↦ absurd (let f : None ≡ Some n = rw large at e in cc)
@@ -203,7 +168,7 @@ pub record NumberTook (limit : ℕ) (p : Place) (x : ℕ × Place) : Type 0 wher
   pub below : x.0 < limit
   pub ends : NoDigit x.1.rest
 
-number_by_takes : (at limit : ℕ) (p : Place) (o : Option ℕ) (x : ℕ × Place) → number_of limit (digits p.rest) ≡ o → number_by at (digits p.rest) p o ≡ Ok x → NumberTook limit p x
+number_by_takes : (at limit : ℕ) (p : Place) (o : Option ℕ) (x : ℕ × Place) → numeral_value limit (digits p.rest) ≡ o → number_by at (digits p.rest) p o ≡ Ok x → NumberTook limit p x
 number_by_takes at limit p None x is e = absurd (not_ok at x e)
 number_by_takes at limit p (Some n) x is e =
     let number = number_is limit (digits p.rest) n is in
@@ -216,4 +181,4 @@ number_by_takes at limit p (Some n) x is e =
     })
 
 pub number_takes : (at limit : ℕ) (p : Place) (x : ℕ × Place) → number_at at limit p ≡ Ok x → NumberTook limit p x
-number_takes at limit p x e = number_by_takes at limit p (number_of limit (digits p.rest)) x refl e
+number_takes at limit p x e = number_by_takes at limit p (numeral_value limit (digits p.rest)) x refl e

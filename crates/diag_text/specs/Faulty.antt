@@ -22,11 +22,11 @@ NoDigit [] = Unit {0}
 NoDigit (c ∷ cs) = is_ascii_digit c ≡ false
 
 -- nothing that goes on with an unsigned number
-abbrev pub Stops : List ℕ → Type 0
-Stops more = NoDigit more × (Starts (codes "(") more → ⊥)
+abbrev pub EndsNumber : List ℕ → Type 0
+EndsNumber more = NoDigit more × (Starts (codes "(") more → ⊥)
 
 abbrev pub EndsBy : Item-F Item Pair → List ℕ → Type 0
-EndsBy (Item-F.Unsigned n) more = Stops more
+EndsBy (Item-F.Unsigned n) more = EndsNumber more
 EndsBy (Item-F.Negative n) more = NoDigit more
 EndsBy _ more = Unit {0}
 

@@ -3,8 +3,8 @@
 //! `print` writes the one text of a proper item, and `read` reads exactly those texts.
 #![tactic(auto)]
 
-mod cursor;
 mod fault;
+mod hex;
 mod laws;
 mod printer;
 mod reader;
@@ -12,7 +12,6 @@ mod scan;
 #[cfg(test)]
 mod tests;
 
-pub use cbor_core::{Boxed, Item, List, NoMemory, Octets, OrMemory, Pair, Utf8};
 pub use fault::{DiagFault, TextFault};
 pub use laws::exactly_one;
 pub use printer::print;

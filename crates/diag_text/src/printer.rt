@@ -2,33 +2,21 @@ ghost use Rattle.std.specs.Prelude.{◌≡◌, ◌+◌, ◌<◌, ◌++◌, List,
 ghost use Rattle.std.specs.List.{flat_map};
 ghost use Rattle.std.specs.Char.{encode_utf8};
 ghost use Rattle.cbor_core.specs.Spelling.{IsProper};
-ghost use Rattle.diag_text.specs.Printed.{hex_digit, hex_byte, escaped, listed, word, printed, pair_printed};
+ghost use Rattle.diag_text.specs.Printed.{hex_byte, escaped, listed, word, printed, pair_printed};
 ghost use Rattle.diag_text.specs.Printing.{before};
 
+use crate::hex::hex_code;
 use base_types::{OrMemory, Utf8};
 use cbor_core::{Item, Pair};
 use itoa::Buffer;
 use std::alloc::Global;
 
-/// A hexadecimal digit, in lower case.
-fn hex_char(n: u8) -> char
-    requires { n < 16 }
-    ensures value { result ≡ hex_digit n }
-    ensures ascii { result < 128 }
-{
-    if n < 10 {
-        (48 + n) as char
-    } else {
-        (87 + n) as char
-    }
-}
-
 /// Writes a byte in two hexadecimal digits.
 fn push_hex(out: &mut String, byte: u8) -> OrMemory<()>
     ensures { OnOk result (string_bytes out.new ≡ string_bytes out.old ++ hex_byte byte) }
 {
-    out.push(hex_char(byte / 16))?;
-    out.push(hex_char(byte % 16))?;
+    out.push(hex_code(byte / 16) as char)?;
+    out.push(hex_code(byte % 16) as char)?;
     Ok(())
 }
 

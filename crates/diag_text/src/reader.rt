@@ -7,20 +7,21 @@ ghost use Rattle.cbor_core.specs.Faulty.{last_key};
 ghost use Rattle.cbor_core.specs.Spelling.{spelling, bytes_below};
 ghost use Rattle.diag_text.specs.declared.fault.TextFault.{TextFault};
 ghost use Rattle.diag_text.specs.Printed.{Prints};
-ghost use Rattle.diag_text.specs.Reading.{Gives, Decides, whole_at, string_at, inside_at, parts_at, member_at, key_at, pair_at, array_at, map_at, tag_at, number_or_tag, negative_at, plain_at, item_at, inside, alone, IsFound, IsRefused};
+ghost use Rattle.cbor_heads.specs.Reading.{Follows, inside};
+ghost use Rattle.diag_text.specs.Reading.{Decides, whole_at, string_at, inside_at, parts_at, member_at, key_at, pair_at, array_at, map_at, tag_at, number_or_tag, negative_at, plain_at, item_at, alone, IsTextRead, IsTextRefused, place_in, item_by};
 ghost use Rattle.diag_text.specs.Faulty.{TextFaulty};
 
-use crate::cursor::Cursor;
 use crate::fault::{DiagFault, TextFault};
 use crate::scan::{bad, read_bytes, read_number, read_text};
 use base_types::{Boxed, CBOR_DEPTH_LIMIT, List, Octets, Utf8};
 use cbor_core::{Item, Pair, encode};
+use cbor_heads::Input;
 use std::alloc::Global;
 
 /// Reads the text string that began at a place.
-#[tactic(auto, using(crate::proofs::Depths::texts))]
-fn read_string(alloc: Global, input: &mut Cursor<'_>, at: usize) -> Result<Item, DiagFault>
-    ensures { Gives (string_at at input.old) result input.new }
+#[tactic(auto, using(cbor_heads::proofs::Public::Texts::texts))]
+fn read_string(alloc: Global, input: &mut Input<'_>, at: usize) -> Result<Item, DiagFault>
+    ensures { Follows place_in (string_at at input.old) result input.new }
 {
     let found = read_text(alloc, input, at)?;
     match str::from_utf8(found.as_slice()) {
@@ -30,8 +31,8 @@ fn read_string(alloc: Global, input: &mut Cursor<'_>, at: usize) -> Result<Item,
 }
 
 /// Reads the negative number that began at a place, behind its `-`.
-fn read_negative(input: &mut Cursor<'_>, at: usize) -> Result<Item, DiagFault>
-    ensures { Gives (negative_at at input.old) result input.new }
+fn read_negative(input: &mut Input<'_>, at: usize) -> Result<Item, DiagFault>
+    ensures { Follows place_in (negative_at at input.old) result input.new }
 {
     let n = read_number(input, at, (1 << 64) + 1)?;
     if n == 0 {
@@ -42,10 +43,10 @@ fn read_negative(input: &mut Cursor<'_>, at: usize) -> Result<Item, DiagFault>
 
 /// Reads an item inside which so many containers may still stand.
 #[cycle(reader)]
-#[tactic(auto, using(crate::proofs::Depths::depths))]
-fn read_item(alloc: Global, depth: u8, input: &mut Cursor<'_>) -> Result<Item, DiagFault>
+#[tactic(auto, using(cbor_heads::proofs::Public::Depths::depths))]
+fn read_item(alloc: Global, depth: u8, input: &mut Input<'_>) -> Result<Item, DiagFault>
     requires { depth ≤ 16 }
-    ensures { Gives (item_at depth input.old) result input.new }
+    ensures { Follows place_in (item_at depth input.old) result input.new }
 {
     let at = input.at();
     if input.token(b"true") {
@@ -77,15 +78,10 @@ fn read_item(alloc: Global, depth: u8, input: &mut Cursor<'_>) -> Result<Item, D
 
 /// Reads a number, or a tag where a bracket stands behind it.
 #[cycle(reader)]
-fn read_plain(
-    alloc: Global,
-    depth: u8,
-    input: &mut Cursor<'_>,
-    at: usize,
-) -> Result<Item, DiagFault>
+fn read_plain(alloc: Global, depth: u8, input: &mut Input<'_>, at: usize) -> Result<Item, DiagFault>
     requires depth { depth ≤ 16 }
     requires at { at ≡ input.old.at }
-    ensures { Gives (plain_at (inside depth) input.old) result input.new }
+    ensures { Follows place_in (plain_at (inside item_by depth) input.old) result input.new }
 {
     let n = read_number(input, at, 1 << 64)? as u64;
     if input.token(b"(") {
@@ -96,16 +92,16 @@ fn read_plain(
 
 /// Reads the content of the tag n, which began at a place, and the bracket behind it.
 #[cycle(reader)]
-#[tactic(auto, using(crate::proofs::Depths::depths))]
+#[tactic(auto, using(cbor_heads::proofs::Public::Depths::depths))]
 fn read_tag(
     alloc: Global,
     depth: u8,
-    input: &mut Cursor<'_>,
+    input: &mut Input<'_>,
     at: usize,
     n: u64,
 ) -> Result<Item, DiagFault>
     requires { depth ≤ 16 }
-    ensures { Gives (tag_at (inside depth) at n input.old) result input.new }
+    ensures { Follows place_in (tag_at (inside item_by depth) at n input.old) result input.new }
 {
     if depth == 0 {
         return Err(bad(at));
@@ -119,15 +115,10 @@ fn read_tag(
 
 /// Reads the array that began at a place, behind its `[`.
 #[cycle(reader)]
-#[tactic(auto, using(crate::proofs::Depths::depths))]
-fn read_array(
-    alloc: Global,
-    depth: u8,
-    input: &mut Cursor<'_>,
-    at: usize,
-) -> Result<Item, DiagFault>
+#[tactic(auto, using(cbor_heads::proofs::Public::Depths::depths))]
+fn read_array(alloc: Global, depth: u8, input: &mut Input<'_>, at: usize) -> Result<Item, DiagFault>
     requires { depth ≤ 16 }
-    ensures { Gives (array_at (inside depth) at input.old) result input.new }
+    ensures { Follows place_in (array_at (inside item_by depth) at input.old) result input.new }
 {
     if depth == 0 {
         return Err(bad(at));
@@ -140,9 +131,9 @@ fn read_array(
 
 /// Reads the members of an array, up to its `]`.
 #[cycle(reader)]
-fn read_members(alloc: Global, depth: u8, input: &mut Cursor<'_>) -> Result<List<Item>, DiagFault>
+fn read_members(alloc: Global, depth: u8, input: &mut Input<'_>) -> Result<List<Item>, DiagFault>
     requires { depth ≤ 16 }
-    ensures { Gives (parts_at (member_at (item_at depth)) (codes "]") (length input.old.rest) [] input.old) result input.new }
+    ensures { Follows place_in (parts_at (member_at (item_at depth)) (codes "]") (length input.old.rest) [] input.old) result input.new }
 {
     let mut found = List::new(alloc);
     for _ in 0..input.len() {
@@ -159,10 +150,10 @@ fn read_members(alloc: Global, depth: u8, input: &mut Cursor<'_>) -> Result<List
 
 /// Reads the map that began at a place, behind its `{`.
 #[cycle(reader)]
-#[tactic(auto, using(crate::proofs::Depths::depths))]
-fn read_map(alloc: Global, depth: u8, input: &mut Cursor<'_>, at: usize) -> Result<Item, DiagFault>
+#[tactic(auto, using(cbor_heads::proofs::Public::Depths::depths))]
+fn read_map(alloc: Global, depth: u8, input: &mut Input<'_>, at: usize) -> Result<Item, DiagFault>
     requires { depth ≤ 16 }
-    ensures { Gives (map_at (inside depth) at input.old) result input.new }
+    ensures { Follows place_in (map_at (inside item_by depth) at input.old) result input.new }
 {
     if depth == 0 {
         return Err(bad(at));
@@ -185,11 +176,11 @@ fn is_below(a: &[u8], b: &[u8]) -> bool
 fn read_key(
     alloc: Global,
     depth: u8,
-    input: &mut Cursor<'_>,
+    input: &mut Input<'_>,
     last: &mut Octets,
 ) -> Result<Item, DiagFault>
     requires { depth < 16 }
-    ensures read { Gives (key_at (item_at depth) last.old input.old) result input.new }
+    ensures read { Follows place_in (key_at (item_at depth) last.old input.old) result input.new }
     ensures last { OnOk result (IfOk result (λ key. last.new ≡ spelling key)) }
 {
     let at = input.at();
@@ -207,11 +198,11 @@ fn read_key(
 fn read_pair(
     alloc: Global,
     depth: u8,
-    input: &mut Cursor<'_>,
+    input: &mut Input<'_>,
     last: &mut Octets,
 ) -> Result<Pair, DiagFault>
     requires { depth < 16 }
-    ensures read { (found : List Pair) → last.old ≡ last_key [] found → Gives (pair_at (item_at depth) found input.old) result input.new }
+    ensures read { (found : List Pair) → last.old ≡ last_key [] found → Follows place_in (pair_at (item_at depth) found input.old) result input.new }
     ensures last { IfOk result (λ pair. last.new ≡ spelling pair.key) }
 {
     let key = read_key(alloc, depth, input, last)?;
@@ -224,9 +215,9 @@ fn read_pair(
 
 /// Reads the pairs of a map, up to its `}`.
 #[cycle(reader)]
-fn read_pairs(alloc: Global, depth: u8, input: &mut Cursor<'_>) -> Result<List<Pair>, DiagFault>
+fn read_pairs(alloc: Global, depth: u8, input: &mut Input<'_>) -> Result<List<Pair>, DiagFault>
     requires { depth < 16 }
-    ensures { Gives (parts_at (pair_at (item_at depth)) (codes "}") (length input.old.rest) [] input.old) result input.new }
+    ensures { Follows place_in (parts_at (pair_at (item_at depth)) (codes "}") (length input.old.rest) [] input.old) result input.new }
 {
     let mut found = List::new(alloc);
     let mut last = Octets::new(alloc);
@@ -246,7 +237,7 @@ fn read_pairs(alloc: Global, depth: u8, input: &mut Cursor<'_>) -> Result<List<P
 fn read_alone(alloc: Global, text: &[u8]) -> Result<Item, DiagFault>
     ensures { Decides (whole_at text.now) result }
 {
-    let mut input = Cursor::new(text);
+    let mut input = Input::new(text);
     let item = read_item(alloc, CBOR_DEPTH_LIMIT, &mut input)?;
     if input.len() > 0 {
         return Err(bad(input.at()));
@@ -266,11 +257,11 @@ pub fn read(alloc: Global, text: &str) -> Result<Item, DiagFault>
     // What is found has this text.
     ensures found { IfOk result (λ x. Prints x text.now) }
     // The proper item that has this text is found, unless memory runs out.
-    ensures only { (x : Item) → Prints x text.now → IsFound result x }
+    ensures only { (x : Item) → Prints x text.now → IsTextRead result x }
     // The answer Bad names the place of a fault of the text.
     ensures bad { (f : TextFault) → result ≡ Err (DiagFault.Bad f) → TextFaulty text.now f.at }
     // A fault of the text is the answer, unless memory runs out.
-    ensures refused { (at : ℕ) → TextFaulty text.now at → IsRefused result at }
+    ensures refused { (at : ℕ) → TextFaulty text.now at → IsTextRefused result at }
 {
     read_alone(alloc, text.as_bytes())
 }

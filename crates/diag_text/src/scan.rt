@@ -1,12 +1,14 @@
 ghost use Rattle.std.specs.Prelude.{◌≡◌, ◌^◌, ◌<◌, ◌≤◌, ◌+◌, [], length, slice_index, Some, None, codes, if◌then◌else◌, IfSome, IfOk};
 ghost use Rattle.std.specs.Str.Parse.{AllDigits};
-ghost use Rattle.cbor_heads.specs.Place.{skip};
-ghost use Rattle.diag_text.specs.Printed.{hex_digit, hex_byte, escaped};
-ghost use Rattle.diag_text.specs.Reading.{Gives, begins, digits, number_of, number_by, number_at, value_below, hex_value, hex_pair, hex_guess, text_guess, pieces_at, bytes_at, text_at};
+ghost use Rattle.cbor_heads.specs.Place.{skip, begins};
+ghost use Rattle.diag_text.specs.Printed.{hex_byte, escaped};
+ghost use Rattle.cbor_heads.specs.Reading.{Follows};
+ghost use Rattle.diag_text.specs.Reading.{digits, numeral_value, number_by, number_at, value_below, hex_guess, text_guess, pieces_at, bytes_at, text_at, place_in};
 
-use crate::cursor::Cursor;
 use crate::fault::{DiagFault, TextFault};
+use crate::hex::{hex_code, hex_join};
 use base_types::Octets;
+use cbor_heads::Input;
 use itoa::Buffer;
 use std::alloc::Global;
 
@@ -25,33 +27,6 @@ fn byte_at(bytes: &[u8], index: usize) -> u8
         Some(byte) => *byte,
         None => 0,
     }
-}
-
-/// The value of a hexadecimal digit in lower case, and 0 for other bytes.
-fn hex_nibble(c: u8) -> u8
-    ensures value { result ≡ hex_value c }
-    ensures small { result < 16 }
-{
-    match c {
-        48..=57 => c - 48,
-        97..=102 => c - 87,
-        _ => 0,
-    }
-}
-
-/// The byte that two hexadecimal digits write.
-fn hex_join(a: u8, b: u8) -> u8
-    ensures { result ≡ hex_pair a b }
-{
-    hex_nibble(a) * 16 + hex_nibble(b)
-}
-
-/// A hexadecimal digit, in lower case.
-fn hex_code(n: u8) -> u8
-    requires { n < 16 }
-    ensures { result ≡ hex_digit n }
-{
-    if n < 10 { 48 + n } else { 87 + n }
 }
 
 /// The byte that a byte string goes on with, where the front of the bytes writes it.
@@ -79,7 +54,7 @@ fn guess_text(bytes: &[u8]) -> u8
 }
 
 /// Goes on behind a byte in two hexadecimal digits, and says whether it stands there.
-fn pass_hex(input: &mut Cursor<'_>, byte: u8) -> bool
+fn pass_hex(input: &mut Input<'_>, byte: u8) -> bool
     ensures found { result ≡ begins (hex_byte byte) input.old.rest }
     ensures after { input.new ≡ (if result then skip (length (hex_byte byte)) input.old else input.old) }
 {
@@ -87,7 +62,7 @@ fn pass_hex(input: &mut Cursor<'_>, byte: u8) -> bool
 }
 
 /// Goes on behind a byte of a text, as it is written there, and says whether it stands there.
-fn pass_text(input: &mut Cursor<'_>, byte: u8) -> bool
+fn pass_text(input: &mut Input<'_>, byte: u8) -> bool
     ensures found { result ≡ begins (escaped byte) input.old.rest }
     ensures after { input.new ≡ (if result then skip (length (escaped byte)) input.old else input.old) }
 {
@@ -103,8 +78,8 @@ fn pass_text(input: &mut Cursor<'_>, byte: u8) -> bool
 }
 
 /// Reads the bytes of a byte string up to its closing mark.
-pub fn read_bytes(alloc: Global, input: &mut Cursor<'_>, at: usize) -> Result<Octets, DiagFault>
-    ensures { Gives (bytes_at at input.old) result input.new }
+pub fn read_bytes(alloc: Global, input: &mut Input<'_>, at: usize) -> Result<Octets, DiagFault>
+    ensures { Follows place_in (bytes_at at input.old) result input.new }
 {
     let mut found = Octets::new(alloc);
     for _ in 0..input.len() {
@@ -121,8 +96,8 @@ pub fn read_bytes(alloc: Global, input: &mut Cursor<'_>, at: usize) -> Result<Oc
 }
 
 /// Reads the bytes of a text up to its closing mark.
-pub fn read_text(alloc: Global, input: &mut Cursor<'_>, at: usize) -> Result<Octets, DiagFault>
-    ensures { Gives (text_at at input.old) result input.new }
+pub fn read_text(alloc: Global, input: &mut Input<'_>, at: usize) -> Result<Octets, DiagFault>
+    ensures { Follows place_in (text_at at input.old) result input.new }
 {
     let mut found = Octets::new(alloc);
     for _ in 0..input.len() {
@@ -175,12 +150,12 @@ fn digits_number(digits: &[u8], limit: u128) -> Option<u128>
 }
 
 /// The number below the limit that has this decimal form.
-#[tactic(auto, unfolding(crate::specs::Reading::number_of))]
+#[tactic(auto, unfolding(crate::specs::Reading::numeral_value))]
 fn number_from(digits: &[u8], limit: u128) -> Option<u128>
     requires all { AllDigits 10 digits.now }
     requires some { 0 < limit }
     requires limit { limit ≤ 2 ^ 64 + 1 }
-    ensures value { result ≡ number_of limit digits.now }
+    ensures value { result ≡ numeral_value limit digits.now }
     ensures below { IfSome result (λ n. n < limit) }
 {
     let n = digits_number(digits, limit)?;
@@ -193,16 +168,16 @@ fn number_from(digits: &[u8], limit: u128) -> Option<u128>
 }
 
 /// Reads a number below a limit: all the digits at the place, in a token that began at an offset.
-pub fn read_number(input: &mut Cursor<'_>, at: usize, limit: u128) -> Result<u128, DiagFault>
+pub fn read_number(input: &mut Input<'_>, at: usize, limit: u128) -> Result<u128, DiagFault>
     requires some { 0 < limit }
     requires limit { limit ≤ 2 ^ 64 + 1 }
-    ensures read { Gives (number_at at limit input.old) result input.new }
+    ensures read { Follows place_in (number_at at limit input.old) result input.new }
     ensures below { IfOk result (λ n. n < limit) }
 {
     let digits = front_digits(input.rest());
     match number_from(digits, limit) {
         Some(n) => {
-            input.pass(digits.len());
+            let _ = input.take(digits.len());
             Ok(n)
         }
         None => Err(bad(at)),

@@ -53,7 +53,7 @@ fn items_have_their_texts(rt: HostRuntime) -> Result<(), Fail> {
 struct Refused(&'static str, usize);
 
 /// Texts of each kind of fault.
-const REFUSED: [Refused; 30] = [
+const REFUSED: [Refused; 31] = [
     Refused("", 0),
     Refused("x", 0),
     Refused("tru", 0),
@@ -82,6 +82,7 @@ const REFUSED: [Refused; 30] = [
     Refused("{1: -1,\"a\": 0}", 6),
     Refused("{2: 0, 1: 0}", 7),
     Refused("{2: 0, 1x", 7),
+    Refused("{2: 0, 1", 7),
     Refused("{1:0}", 2),
     Refused("18(1", 4),
 ];

@@ -16,23 +16,23 @@ read_members-returns-in_err-read_item t c =
 pub read_members-returns-then-token : goal.read_members-returns-then-token
 read_members-returns-then-token t c =
     let lt : c.loop.counter < length c.args.input.now.rest = omega (arith, c.len-end.ensures, c.loop-test.true) in
-    let behind = rw c.if-token.true at c.token.ensures.after in
+    let behind = rw c.if-token.true at c.token.ensures.behind in
     met_closes (member_at (item_at c.args.depth)) (codes "]") (length c.args.input.now.rest) c.loop.counter c.loop.found c.loop.input _ c.loop.invariant c.in_ok-read_item.field-0 c.read_item.new.input c.token.new.self c.token.result c.push.new.self
     lt (member_is (item_at c.args.depth) c.loop.found c.loop.input ∙ c.in_ok-read_item.ensures) c.token.ensures.found c.if-token.true behind c.in_ok-push.ensures.ok
 
 pub read_members-returns-then-not-token : goal.read_members-returns-then-not-token
 read_members-returns-then-not-token t c =
     let lt : c.loop.counter < length c.args.input.now.rest = omega (arith, c.len-end.ensures, c.loop-test.true) in
-    let one = rw c.if-token.false at c.token.ensures.after in
-    let two = rw c.if-not-token.true at c.token-in-loop.ensures.after in
+    let one = rw c.if-token.false at c.token.ensures.behind in
+    let two = rw c.if-not-token.true at c.token-in-loop.ensures.behind in
     rw c.bad.ensures (met_wrong (member_at (item_at c.args.depth)) (codes "]") (length c.args.input.now.rest) c.loop.counter c.loop.found c.loop.input _ c.loop.invariant c.in_ok-read_item.field-0 c.read_item.new.input c.token.new.self c.token-in-loop.new.self c.token.result c.token-in-loop.result c.at.result
     lt (member_is (item_at c.args.depth) c.loop.found c.loop.input ∙ c.in_ok-read_item.ensures) c.token.ensures.found c.if-token.false one c.token-in-loop.ensures.found c.if-not-token.true two c.at.ensures.value)
 
 pub read_members-loop-preserved : goal.read_members-loop-preserved
 read_members-loop-preserved t c =
     let lt : c.loop.counter < length c.args.input.now.rest = omega (arith, c.len-end.ensures, c.loop-test.true) in
-    let one = rw c.if-token.false at c.token.ensures.after in
-    let two = rw c.if-not-token.false at c.token-in-loop.ensures.after in
+    let one = rw c.if-token.false at c.token.ensures.behind in
+    let two = rw c.if-not-token.false at c.token-in-loop.ensures.behind in
     (met_next (member_at (item_at c.args.depth)) (codes "]") (length c.args.input.now.rest) c.loop.counter c.loop.found c.loop.input _ c.loop.invariant c.in_ok-read_item.field-0 c.read_item.new.input c.token.new.self c.token-in-loop.new.self c.token.result c.token-in-loop.result c.push.new.self
     lt (member_is (item_at c.args.depth) c.loop.found c.loop.input ∙ c.in_ok-read_item.ensures) c.token.ensures.found c.if-token.false one c.token-in-loop.ensures.found c.if-not-token.false two c.in_ok-push.ensures.ok)
 
@@ -48,23 +48,23 @@ read_pairs-returns-in_err-read_pair t c =
 pub read_pairs-returns-then-token : goal.read_pairs-returns-then-token
 read_pairs-returns-then-token t c =
     let lt : c.loop.counter < length c.args.input.now.rest = omega (arith, c.len-end.ensures, c.loop-test.true) in
-    let behind = rw c.if-token.true at c.token.ensures.after in
+    let behind = rw c.if-token.true at c.token.ensures.behind in
     met_closes (pair_at (item_at c.args.depth)) (codes "}") (length c.args.input.now.rest) c.loop.counter c.loop.found c.loop.input _ c.loop.invariant.so_far c.in_ok-read_pair.field-0 c.read_pair.new.input c.token.new.self c.token.result c.push.new.self
     lt (c.in_ok-read_pair.ensures.read c.loop.found c.loop.invariant.last) c.token.ensures.found c.if-token.true behind c.in_ok-push.ensures.ok
 
 pub read_pairs-returns-then-not-token : goal.read_pairs-returns-then-not-token
 read_pairs-returns-then-not-token t c =
     let lt : c.loop.counter < length c.args.input.now.rest = omega (arith, c.len-end.ensures, c.loop-test.true) in
-    let one = rw c.if-token.false at c.token.ensures.after in
-    let two = rw c.if-not-token.true at c.token-in-loop.ensures.after in
+    let one = rw c.if-token.false at c.token.ensures.behind in
+    let two = rw c.if-not-token.true at c.token-in-loop.ensures.behind in
     rw c.bad.ensures (met_wrong (pair_at (item_at c.args.depth)) (codes "}") (length c.args.input.now.rest) c.loop.counter c.loop.found c.loop.input _ c.loop.invariant.so_far c.in_ok-read_pair.field-0 c.read_pair.new.input c.token.new.self c.token-in-loop.new.self c.token.result c.token-in-loop.result c.at.result
     lt (c.in_ok-read_pair.ensures.read c.loop.found c.loop.invariant.last) c.token.ensures.found c.if-token.false one c.token-in-loop.ensures.found c.if-not-token.true two c.at.ensures.value)
 
 pub read_pairs-loop-preserved : goal.read_pairs-loop-preserved
 read_pairs-loop-preserved t c =
     let lt : c.loop.counter < length c.args.input.now.rest = omega (arith, c.len-end.ensures, c.loop-test.true) in
-    let one = rw c.if-token.false at c.token.ensures.after in
-    let two = rw c.if-not-token.false at c.token-in-loop.ensures.after in
+    let one = rw c.if-token.false at c.token.ensures.behind in
+    let two = rw c.if-not-token.false at c.token-in-loop.ensures.behind in
     record {
       so_far = (met_next (pair_at (item_at c.args.depth)) (codes "}") (length c.args.input.now.rest) c.loop.counter c.loop.found c.loop.input _ c.loop.invariant.so_far c.in_ok-read_pair.field-0 c.read_pair.new.input c.token.new.self c.token-in-loop.new.self c.token.result c.token-in-loop.result c.push.new.self
           lt (c.in_ok-read_pair.ensures.read c.loop.found c.loop.invariant.last) c.token.ensures.found c.if-token.false one c.token-in-loop.ensures.found c.if-not-token.false two c.in_ok-push.ensures.ok);

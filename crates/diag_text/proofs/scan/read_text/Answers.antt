@@ -7,20 +7,20 @@ use Rattle.diag_text.proofs.scan.read_text.Goals as goal
 pub returns-then-token : goal.returns-then-token
 returns-then-token c =
     let lt : c.loop.counter < length c.args.input.now.rest = omega (arith, c.len-end.ensures, c.loop-test.true) in
-    let after = rw c.if-token.true at c.token.ensures.after in
+    let after = rw c.if-token.true at c.token.ensures.behind in
     rw after (piece_closes escaped text_guess (codes "\"") c.args.at (length c.args.input.now.rest) c.loop.counter c.loop.found c.loop.input _ c.loop.invariant lt (sym c.token.ensures.found ∙ c.if-token.true))
 
 pub returns-then-not-pass_text : goal.returns-then-not-pass_text
 returns-then-not-pass_text c =
     let lt : c.loop.counter < length c.args.input.now.rest = omega (arith, c.len-end.ensures, c.loop-test.true) in
-    let after = rw c.if-token.false at c.token.ensures.after in
+    let after = rw c.if-token.false at c.token.ensures.behind in
     rw c.bad.ensures (piece_refused escaped text_guess (codes "\"") c.args.at (length c.args.input.now.rest) c.loop.counter c.loop.found c.loop.input _ c.loop.invariant c.token.new.self c.guess_text-byte.result c.pass_text.result
     lt after (sym c.token.ensures.found ∙ c.if-token.false) (rw c.rest.ensures at c.guess_text-byte.ensures) c.pass_text.ensures.found c.if-not-pass_text.true)
 
 pub loop-preserved : goal.loop-preserved
 loop-preserved c =
     let lt : c.loop.counter < length c.args.input.now.rest = omega (arith, c.len-end.ensures, c.loop-test.true) in
-    let after = rw c.if-token.false at c.token.ensures.after in
+    let after = rw c.if-token.false at c.token.ensures.behind in
     let behind = rw c.if-not-pass_text.false at c.pass_text.ensures.after in
     piece_goes_on escaped text_guess (codes "\"") c.args.at (length c.args.input.now.rest) c.loop.counter c.loop.found c.loop.input _ c.loop.invariant c.token.new.self c.pass_text.new.input c.guess_text-byte.result c.pass_text.result c.push.new.self
     lt after (sym c.token.ensures.found ∙ c.if-token.false) (rw c.rest.ensures at c.guess_text-byte.ensures) c.pass_text.ensures.found c.if-not-pass_text.false behind c.in_ok-push.ensures.ok
