@@ -36,6 +36,7 @@ module _ (P : Item → Type 0) (F : Place → Fault → Type 0) where
     pub next : ((bytes_below last (spelling key) ≡ false) × (f ≡ record { at = q.at; why = why.KeyOrder }))
         ⊎ ((bytes_below last (spelling key) ≡ true) × F (behind q.at (spelling key) more) f)
 
+  -- some pairs, fewer than n, are spelled, and the next key or what follows it is faulty
   pub record MapFault (n : ℕ) (last : List ℕ) (q : Place) (f : Fault) : Type 0 where
     pub pairs : List Pair
     pub more : List ℕ
@@ -45,6 +46,7 @@ module _ (P : Item → Type 0) (F : Place → Fault → Type 0) where
     pub spelled : q.rest ≡ pair_spellings pairs ++ more
     pub next : F (behind q.at (pair_spellings pairs) more) f ⊎ AfterKey (last_key last pairs) (behind q.at (pair_spellings pairs) more) f
 
+  -- a part of what the head announced is faulty
   abbrev pub PartFault : Kind → ℕ → Place → Fault → Type 0
   PartFault k.Array n q f = ArrayFault n q f
   PartFault k.Map n q f = MapFault n [] q f

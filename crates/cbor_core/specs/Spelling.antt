@@ -39,6 +39,7 @@ pair_step p = p.key ++ p.value
 unfoldable pub spelling : Item → List ℕ
 spelling = fold-Item (List ℕ) (List ℕ) item_step pair_step
 
+-- the bytes of a pair
 unfoldable pub pair_spelling : Pair → List ℕ
 pair_spelling = fold-Pair (List ℕ) (List ℕ) item_step pair_step
 
@@ -46,6 +47,7 @@ pair_spelling = fold-Pair (List ℕ) (List ℕ) item_step pair_step
 abbrev pub spellings : List Item → List ℕ
 spellings = flat_map spelling
 
+-- the bytes of pairs, one behind the other
 abbrev pub pair_spellings : List Pair → List ℕ
 pair_spellings = flat_map pair_spelling
 
@@ -73,6 +75,7 @@ abbrev pub IsProperWithin : ℕ → Item → Type 0
 IsProperWithin zero x = IsProperBy false (λ _. ⊥) (out-Item x)
 IsProperWithin (suc depth) x = IsProperBy true (IsProperWithin depth) (out-Item x)
 
+-- a proper item: at most 16 containers stand inside one another
 abbrev pub IsProper : Item → Type 0
 IsProper x = IsProperWithin CBOR_DEPTH_LIMIT x
 
@@ -94,6 +97,7 @@ abbrev pub HasRangesWithin : ℕ → Item → Type 0
 HasRangesWithin zero x = IsInRangeBy (λ _. Unit {0}) (out-Item x)
 HasRangesWithin (suc depth) x = IsInRangeBy (HasRangesWithin depth) (out-Item x)
 
+-- the ranges of all levels
 abbrev pub HasRanges : Item → Type 0
 HasRanges x = HasRangesWithin CBOR_DEPTH_LIMIT x
 

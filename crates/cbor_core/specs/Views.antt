@@ -4,6 +4,7 @@ use Rattle.cbor_core.specs.declared.item.Item.{Item, out-Item}
 use Rattle.cbor_core.specs.declared.item.Item.TheOpen.{Item-F}
 use Rattle.cbor_core.specs.declared.item.Pair.{Pair}
 
+-- the number of an unsigned integer, by its layer
 abbrev pub unsigned_by : Item-F Item Pair → Option ℕ
 unsigned_by (Item-F.Unsigned n) = Some n
 unsigned_by _ = None
@@ -12,14 +13,7 @@ unsigned_by _ = None
 abbrev pub unsigned_of : Item → Option ℕ
 unsigned_of x = unsigned_by (out-Item x)
 
-abbrev pub negative_by : Item-F Item Pair → Option ℕ
-negative_by (Item-F.Negative n) = Some n
-negative_by _ = None
-
--- the n of Negative(n), which is -1-n
-abbrev pub negative_of : Item → Option ℕ
-negative_of x = negative_by (out-Item x)
-
+-- the bytes of a byte string, by its layer
 abbrev pub bytes_by : Item-F Item Pair → Option (List ℕ)
 bytes_by (Item-F.Bytes bytes) = Some bytes
 bytes_by _ = None
@@ -28,6 +22,7 @@ bytes_by _ = None
 abbrev pub bytes_of : Item → Option (List ℕ)
 bytes_of x = bytes_by (out-Item x)
 
+-- the bytes of a text, by its layer
 abbrev pub text_by : Item-F Item Pair → Option (List ℕ)
 text_by (Item-F.Text text) = Some text
 text_by _ = None
@@ -36,6 +31,7 @@ text_by _ = None
 abbrev pub text_of : Item → Option (List ℕ)
 text_of x = text_by (out-Item x)
 
+-- the members of an array, by its layer
 abbrev pub array_by : Item-F Item Pair → Option (List Item)
 array_by (Item-F.Array members) = Some members
 array_by _ = None
@@ -44,6 +40,7 @@ array_by _ = None
 abbrev pub array_of : Item → Option (List Item)
 array_of x = array_by (out-Item x)
 
+-- the pairs of a map, by its layer
 abbrev pub map_by : Item-F Item Pair → Option (List Pair)
 map_by (Item-F.Map pairs) = Some pairs
 map_by _ = None
@@ -52,14 +49,7 @@ map_by _ = None
 abbrev pub map_of : Item → Option (List Pair)
 map_of x = map_by (out-Item x)
 
-abbrev pub tagged_by : Item-F Item Pair → Option (ℕ × Item)
-tagged_by (Item-F.Tag n content) = Some (n, content)
-tagged_by _ = None
-
--- the number of a tag, and the item that it is put on
-abbrev pub tagged_of : Item → Option (ℕ × Item)
-tagged_of x = tagged_by (out-Item x)
-
+-- false or true, by its layer
 abbrev pub truth_by : Item-F Item Pair → Option Bool
 truth_by (Item-F.Truth b) = Some b
 truth_by _ = None
@@ -68,6 +58,7 @@ truth_by _ = None
 abbrev pub truth_of : Item → Option Bool
 truth_of x = truth_by (out-Item x)
 
+-- a key is the number
 abbrev pub labelled_by : ℕ → Item-F Item Pair → Bool
 labelled_by label (Item-F.Unsigned n) = n == label
 labelled_by label _ = false

@@ -11,7 +11,8 @@ use Rattle.cbor_core.specs.declared.item.Item.TheVariants as i
 use Rattle.cbor_heads.specs.Head.{head}
 use Rattle.cbor_core.specs.Spelling.{spelling, spellings, pair_spellings, bytes_below}
 use Rattle.cbor_core.proofs.Public.Spell.{spelling_Unsigned, spelling_Negative, spelling_Bytes, spelling_Text, spelling_Array, spelling_Map, spelling_Tag, spelling_Truth, spelling_Null}
-use Rattle.cbor_heads.proofs.Public.Heads.{head_short, head_8, head_16, head_32, head_64}
+use Rattle.cbor_heads.proofs.Public.Heads.{head_short, head_8}
+use Rattle.cbor_heads.proofs.Public.Fronts.{head_front}
 
 -- the first byte decides, or else what is behind it
 first_below : (a b : ℕ) (s t : List ℕ) → a < b → bytes_below (a ∷ s) (b ∷ t) ≡ true
@@ -22,29 +23,6 @@ first_same a s t below =
     let not_less : nat_lt a a ≡ false = le-ltb a a (omega arith) in
     let same : (a == a) ≡ true = eq-eqb a a refl in
     rw (not_less, same) below
-
--- the first byte of a head, which tells its major type
-record Front (major : ℕ) (bytes : List ℕ) : Type 0 where
-  first : ℕ
-  more : List ℕ
-  is : bytes ≡ first ∷ more
-  low : 32 * major ≤ first
-  high : first < 32 * major + 32
-
-head_front : (major n : ℕ) → Front major (head major n)
-head_front major n = elim (cases_lt n 24) [
-  | inl short ↦ record { first = 32 * major + n; more = []; is = head_short major n short; low = omega arith; high = omega arith }
-  | inr long ↦ elim (cases_lt n 256) [
-    | inl one ↦ record { first = 32 * major + 24; more = to_be_bytes w8 n; is = head_8 major n long one; low = omega arith; high = omega arith }
-    | inr long1 ↦ elim (cases_lt n 65536) [
-      | inl two ↦ record { first = 32 * major + 25; more = to_be_bytes w16 n; is = head_16 major n long1 two; low = omega arith; high = omega arith }
-      | inr long2 ↦ elim (cases_lt n 4294967296) [
-        | inl four ↦ record { first = 32 * major + 26; more = to_be_bytes w32 n; is = head_32 major n long2 four; low = omega arith; high = omega arith }
-        | inr long4 ↦ record { first = 32 * major + 27; more = to_be_bytes w64 n; is = head_64 major n long4; low = omega arith; high = omega arith }
-      ]
-    ]
-  ]
-]
 
 -- heads of one major type ascend by the argument
 arguments_below : (major m n : ℕ) → m < n → n < 256 → bytes_below (head major m) (head major n) ≡ true
