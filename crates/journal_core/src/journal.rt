@@ -52,7 +52,7 @@ impl Journal {
         self.half_at() + self.used
     }
 
-    // Where the half begins that does not count, and where the selector is.
+    // Where the half begins that does not count.
     pub(crate) fn other_at(&self) -> u64
         ensures at { result ≡ half_at self.now.region (not self.now.second) }
         ensures fits { self.now.region.at + region_size self.now.region < 2 ^ 64 }
@@ -60,6 +60,7 @@ impl Journal {
         self.region.half_at(!self.second)
     }
 
+    // Where the selector is.
     pub(crate) fn selector_at(&self) -> u64
         ensures { result ≡ self.now.region.at }
     {

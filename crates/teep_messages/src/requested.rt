@@ -5,8 +5,8 @@ use base_types::Octets;
 pub struct Requested {
     /// The encoding of the manifest's component identifier.
     pub id: Octets,
-    /// The sequence number that the agent has.
+    /// The least sequence number that will do, where the agent names one; else any does.
     pub sequence: Option<u64>,
-    /// Whether the agent has the manifest's image.
+    /// Whether the agent has the payload already, where it says so.
     pub flag: Option<bool>,
 }
