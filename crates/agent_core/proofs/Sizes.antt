@@ -10,7 +10,7 @@ use Rattle.cbor_heads.proofs.Public.Sizes.{head_size}
 use Rattle.cbor_fields.proofs.Public.Lengths.{heads_and_text}
 use Rattle.teep_messages.specs.Messages.{MessageIs}
 use Rattle.teep_messages.specs.Options.{IsSized}
-use Rattle.teep_messages.proofs.Written.{messages_are_proper}
+use Rattle.teep_messages.proofs.Public.Messages.{messages_are_proper}
 use Rattle.agent_core.specs.Answers.{response}
 use Rattle.agent_core.proofs.Proper.{response_item, item_is}
 

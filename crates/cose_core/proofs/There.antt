@@ -6,7 +6,8 @@ use Rattle.cbor_core.specs.declared.item.Item.{Item}
 use Rattle.cbor_core.specs.declared.item.Pair.{Pair}
 use Rattle.cbor_core.specs.declared.item.Item.TheVariants as i
 use Rattle.cbor_core.specs.Spelling.{HasRanges, Spells}
-use Rattle.cbor_core.specs.Views.{field, negative_of, map_of}
+use Rattle.cbor_core.specs.Views.{field, map_of}
+use Rattle.cose_core.proofs.Views.{negative_of}
 use Rattle.cbor_core.proofs.Inputs.{one_for_one}
 use Rattle.cose_core.specs.declared.sign1.Sign1.{Sign1}
 use Rattle.cose_core.specs.declared.fault.CoseFault.{CoseFault}

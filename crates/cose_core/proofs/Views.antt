@@ -5,10 +5,18 @@ use Rattle.cbor_core.specs.declared.item.Pair.{Pair}
 use Rattle.cbor_core.specs.declared.item.Item.TheOpen.{Item-F}
 use Rattle.cbor_core.specs.declared.item.Item.TheViews.{roll-Item, roll-out-Item}
 use Rattle.cbor_core.specs.declared.item.Item.TheVariants as i
-use Rattle.cbor_core.specs.Views.{negative_by, negative_of}
 use Rattle.cbor_core.proofs.Public.Views.{by_layer}
 use Rattle.cose_core.specs.Sign1.{payload_item}
 use Rattle.cose_core.specs.Reading.{payload_by, payload_of}
+
+-- the number of a negative integer, by its layer
+abbrev pub negative_by : Item-F Item Pair → Option ℕ
+negative_by (Item-F.Negative n) = Some n
+negative_by _ = None
+
+-- the n of Negative(n), which is -1-n
+abbrev pub negative_of : Item → Option ℕ
+negative_of x = negative_by (out-Item x)
 
 negative_rolled : (l : Item-F Item Pair) (n : ℕ) → negative_by l ≡ Some n → roll-Item l ≡ i.Negative n
 negative_rolled (Item-F.Negative m) n e = let same : m ≡ n = cc in i.rolls-Negative m ∙ ap (λ (k : ℕ). i.Negative k) same

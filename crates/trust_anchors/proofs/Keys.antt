@@ -5,7 +5,7 @@ use Rattle.cbor_core.specs.declared.item.Item.{Item}
 use Rattle.cbor_core.specs.Views.{bytes_of}
 use Rattle.cose_core.specs.declared.key.CoseKey.{CoseKey}
 use Rattle.cose_core.specs.Key.{KeyIs}
-use Rattle.cose_core.proofs.Keys.{one_key_of_bytes}
+use Rattle.cose_core.proofs.Public.OneKey.{one_key}
 use Rattle.cbor_core.proofs.Public.Views.{bytes_is, bytes_back, same_bytes}
 use Rattle.hss_verify.specs.Hss.{IsHssPublic}
 use Rattle.trust_anchors.specs.Anchors.{IsString, Wraps, IsGood, IsBad}
@@ -21,7 +21,7 @@ pub one_wrapped : (v w : List ℕ) (x : Item) → Wraps v x → Wraps w x → v 
 one_wrapped v w x a b =
     let bytes : a.bytes ≡ b.bytes = same_bytes a.bytes b.bytes (sym a.string ∙ b.string) in
     let there : KeyIs a.key b.bytes = subst (λ (l : List ℕ). KeyIs a.key l) bytes a.wrapped in
-    let keys : a.key ≡ b.key = one_key_of_bytes b.bytes a.key b.key there b.wrapped in
+    let keys : a.key ≡ b.key = one_key b.bytes a.key b.key there b.wrapped in
     sym a.same ∙ ap (λ (k : CoseKey). k.public) keys ∙ b.same
 
 pub good_not_bad : (x : Item) → IsGood x → IsBad x → ⊥
@@ -35,7 +35,7 @@ is_wrapped x b key public e k same known = record { bytes = b; string = bytes_is
 pub is_not_known : (x : Item) (b : List ℕ) (key : CoseKey) → bytes_of x ≡ Some b → KeyIs key b → (IsHssPublic key.public → ⊥) → IsBad x
 is_not_known x b key e k unknown public w =
     let bytes : w.bytes ≡ b = same_bytes w.bytes b (sym w.string ∙ bytes_is x b e) in
-    let keys : w.key ≡ key = one_key_of_bytes b w.key key (subst (λ (l : List ℕ). KeyIs w.key l) bytes w.wrapped) k in
+    let keys : w.key ≡ key = one_key b w.key key (subst (λ (l : List ℕ). KeyIs w.key l) bytes w.wrapped) k in
     let public_is : public ≡ key.public = sym w.same ∙ ap (λ (v : CoseKey). v.public) keys in
     unknown (subst IsHssPublic public_is w.known)
 

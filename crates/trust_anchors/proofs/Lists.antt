@@ -1,5 +1,5 @@
 -- The first place in a list, and lists that go place by place.
-use Rattle.std.proofs.Common.{◌≡◌, ℕ, zero, suc, ◌+◌, ◌<◌, ◌≤◌, List, [], ◌∷◌, ◌++◌, length, get_or, take, map, refl, sym, ap, subst, ◌∙◌, arith}
+use Rattle.std.proofs.Common.{◌≡◌, ℕ, zero, suc, ◌+◌, ◌<◌, ◌≤◌, List, [], ◌∷◌, ◌++◌, length, get_or, take, map, refl, sym, ap, subst, ◌∙◌, ◌⊎◌, inl, inr, arith}
 use Rattle.std.specs.List.{AllByRecursion, AllZip}
 use Rattle.trust_anchors.specs.First.{FirstAt}
 
@@ -40,6 +40,31 @@ module _ {X : Type 0} (B A : X → Type 0) where
   first_one apart (x ∷ xs) zero (suc k) one two = absurd (apart x two.0 one)
   first_one apart (x ∷ xs) (suc j) zero one two = absurd (apart x one.0 two)
   first_one apart (x ∷ xs) (suc j) (suc k) one two = ap suc (first_one apart xs j k one.1 two.1)
+
+  -- each element meets one of the two, so one is the first, or there is none
+  pub first_or_all : (xs : List X) → AllByRecursion (λ x. A x ⊎ B x) xs → ((at : ℕ) × FirstAt B A xs at) ⊎ AllByRecursion B xs
+  first_or_all [] all = inr tt
+  first_or_all (x ∷ xs) all = elim all.0 [
+    | inl a ↦ inl (zero, a)
+    | inr b ↦ elim (first_or_all xs all.1) [ inl later ↦ inl (suc later.0, (b, later.1)) | inr rest ↦ inr (b, rest) ]
+  ]
+
+-- ---- all elements
+
+pub all_each : {X : Type 0} (P : X → Type 0) → ((x : X) → P x) → (xs : List X) → AllByRecursion P xs
+all_each P each [] = tt
+all_each P each (x ∷ xs) = (each x, all_each P each xs)
+
+pub all_or_not : {X : Type 0} (P : X → Type 0) → ((x : X) → P x ⊎ (P x → ⊥)) → (xs : List X) → AllByRecursion P xs ⊎ (AllByRecursion P xs → ⊥)
+all_or_not P each [] = inl tt
+all_or_not P each (x ∷ xs) = elim (each x) [
+  | inr other ↦ inr (λ all. other all.0)
+  | inl here ↦ elim (all_or_not P each xs) [ inl rest ↦ inl (here, rest) | inr other ↦ inr (λ all. other all.1) ]
+]
+
+pub all_both : {X : Type 0} (P Q R : X → Type 0) → ((x : X) → P x → Q x → R x) → (xs : List X) → AllByRecursion P xs → AllByRecursion Q xs → AllByRecursion R xs
+all_both P Q R both [] p q = tt
+all_both P Q R both (x ∷ xs) p q = (both x p.0 q.0, all_both P Q R both xs p.1 q.1)
 
 -- ---- place by place
 
@@ -92,6 +117,11 @@ module _ {X Y : Type 0} (R : X → Y → Type 0) where
   zip_each [] (y ∷ ys) all = absurd all
   zip_each (x ∷ xs) [] all = tt
   zip_each (x ∷ xs) (y ∷ ys) all = ((x, all.0), zip_each xs ys all.1)
+
+  -- what each right side has on its left, as one list
+  pub zip_there : (ys : List Y) → AllByRecursion (λ y. (x : X) × R x y) ys → (xs : List X) × AllZip R xs ys
+  zip_there [] all = ([], tt)
+  zip_there (y ∷ ys) all = let rest = zip_there ys all.1 in (all.0.0 ∷ rest.0, (all.0.1, rest.1))
 
 -- one more image
 pub map_more : {X Y : Type 0} (f : X → Y) (xs : List X) (k : ℕ) (x : X) → k < length xs → x ≡ get_or xs k x → map f (take (k + 1) xs) ≡ map f (take k xs) ++ f x ∷ []

@@ -69,7 +69,7 @@ author_fault ms bs keys faults.NoMemory s f m h = tt
 
 -- ---- the answers
 
-abbrev two : List Item → List Item → Item
+abbrev pub two : List Item → List Item → Item
 two ms bs = i.Array (i.Array ms ∷ i.Array bs ∷ [])
 
 pub is_found : (x : Item) (ms bs : List Item) (r : Result Anchors AnchorFault) → x ≡ two ms bs → RolesReadAs ms bs r → IfOk r (λ v. AnchorsIs v x)
@@ -100,7 +100,7 @@ carried P x ms bs ns cs is there p =
     let same = same_parts ns cs ms bs (sym there ∙ is) in
     subst (λ (t : List Item). P ms t) same.1 (subst (λ (t : List Item). P t cs) same.0 p)
 
-roles_of : (x : Item) (ms bs : List Item) (v : Anchors) → x ≡ two ms bs → AnchorsIs v x → RolesReadAs ms bs (Ok v)
+pub roles_of : (x : Item) (ms bs : List Item) (v : Anchors) → x ≡ two ms bs → AnchorsIs v x → RolesReadAs ms bs (Ok v)
 roles_of x ms bs v is h =
     carried (λ ns cs. RolesReadAs ns cs (Ok v)) x ms bs h.managers h.authors is h.small.form.array
     ((h.small.form.manager, h.small.form.author), (h.small.manager, h.small.author), h.manager, h.author)
@@ -155,7 +155,7 @@ is_refused x ms bs r is h e g = one_refusal ms bs r e h (not_memory x e g) (refu
 
 -- an item that is no two arrays
 
-abbrev NotTwo : Item → Type 0
+abbrev pub NotTwo : Item → Type 0
 NotTwo x = (ms bs : List Item) → x ≡ two ms bs → ⊥
 
 pub none_only : (x : Item) → NotTwo x → (w : Anchors) → AnchorsIs w x → ⊥

@@ -2,3 +2,4 @@ pub mod Printing
 pub mod First
 pub mod Anchors
 pub mod Verified
+pub mod Law

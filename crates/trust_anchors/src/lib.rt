@@ -3,6 +3,7 @@
 
 mod anchors;
 mod fault;
+mod laws;
 mod reading;
 mod role;
 mod signers;
@@ -12,4 +13,5 @@ mod writing;
 
 pub use anchors::Anchors;
 pub use fault::{AnchorFault, SignFault};
+pub use laws::exactly_one;
 pub use role::Role;

@@ -1,6 +1,6 @@
 mod vectors;
 
-use crate::{AnchorFault, Anchors, Role, SignFault};
+use crate::{AnchorFault, Anchors, Role, SignFault, exactly_one};
 use base_types::{ANCHORS_LIMIT, List, Octets};
 use cbor_core::Item;
 use cose_core::{CoseKey, Sign1};
@@ -77,6 +77,7 @@ fn reads_what_it_writes(rt: HostRuntime) -> Result<(), Fail> {
 #[test]
 fn refuses_in_order(rt: HostRuntime) -> Result<(), Fail> {
     let alloc = rt.alloc();
+    exactly_one();
     let shape = Anchors::read(alloc, &Item::Array(List::new(alloc)));
     assert!(rt; shape == Err(AnchorFault::Shape));
 

@@ -1,0 +1,2 @@
+pub mod OneAnchors
+pub mod Signers
