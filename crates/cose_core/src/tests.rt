@@ -4,6 +4,18 @@ use cbor_core::{Fault, Item, Pair, Why};
 use std::alloc::Global;
 use std::test::Fail;
 
+// An array and a map that announce 2^64-1 members and end there: a reader that takes room by what is
+// announced would want memory.
+const VAST_ARRAY: [u8; 9] = [0x9b, 255, 255, 255, 255, 255, 255, 255, 255];
+
+const VAST_MAP: [u8; 9] = [0xbb, 255, 255, 255, 255, 255, 255, 255, 255];
+
+// What is told of both.
+const VAST: Fault = Fault {
+    at: 9,
+    why: Why::CutHead,
+};
+
 // {1: -46}
 const PROTECTED: [u8; 4] = [0xa1, 0x01, 0x38, 0x2d];
 
@@ -28,9 +40,11 @@ fn refuses_in_order(rt: HostRuntime) {
         at: 1,
         why: Why::CutHead,
     };
-    let rows: [(&[u8], CoseFault); 17] = [
+    let rows: [(&[u8], CoseFault); 19] = [
         // bytes that spell no item
         (&[0x84], CoseFault::NotCose(cut)),
+        (&VAST_ARRAY, CoseFault::NotCose(VAST)),
+        (&VAST_MAP, CoseFault::NotCose(VAST)),
         // an array of three, a number, and another tag
         (&[0x83, 0x40, 0xa0, 0xf6], CoseFault::Shape),
         (&[0x05], CoseFault::Shape),
@@ -193,8 +207,10 @@ fn refuses_keys(rt: HostRuntime) -> Result<(), Fail> {
         at: 0,
         why: Why::LongForm,
     };
-    let rows: [(&[u8], KeyFault); 7] = [
+    let rows: [(&[u8], KeyFault); 9] = [
         (&[0x18, 0x05], KeyFault::NotCbor(long)),
+        (&VAST_ARRAY, KeyFault::NotCbor(VAST)),
+        (&VAST_MAP, KeyFault::NotCbor(VAST)),
         // no map, another type, no public part, a public part that is a text
         (&[0x80], KeyFault::Shape),
         (&[0xa2, 0x01, 0x02, 0x20, 0x41, 0x07], KeyFault::Shape),
