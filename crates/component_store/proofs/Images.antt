@@ -1,13 +1,16 @@
 -- What an image says of its device.
-use Rattle.std.proofs.Common.{◌≡◌, ◌≤◌, ◌<◌, ◌+◌, ◌-◌, ◌^◌, ℕ, List, ◌++◌, length, take, drop, codes, replicate, refl, sym, ap, subst, ◌∙◌, arith}
+use Rattle.std.proofs.Common.{◌≡◌, ◌≤◌, ◌<◌, ◌+◌, ◌-◌, ◌^◌, ℕ, List, [], ◌++◌, length, take, drop, codes, replicate, refl, sym, ap, subst, ◌∙◌, arith}
 use Rattle.std.specs.Int.{to_be_bytes, from_be_bytes, w32}
 use Rattle.std.proofs.lemmas.Nat.{from_be_bytes-to_be_bytes_4}
-use Rattle.std.proofs.lemmas.List.{length-append, take-append-drop, length-replicate, take_at}
+use Rattle.std.proofs.lemmas.List.{length-append, take-append-drop, length-replicate, take_at, take_all}
 use Rattle.component_store.specs.declared.config.Config.{Config}
 use Rattle.component_store.specs.declared.config.TheConstants.{CONFIG_LIMIT}
 use Rattle.component_store.specs.Config.{ConfigIs}
 use Rattle.component_store.specs.Image.{IsHead, IsImage, IsNewImage, head_bytes, journal_region}
-use Rattle.journal_core.specs.Region.{region_size}
+use Rattle.journal_core.specs.Region.{region_size, RegionStands}
+use Rattle.journal_core.specs.declared.region.Region.{Region}
+use Rattle.journal_core.proofs.Elsewhere.{zeros_law}
+use Rattle.std.proofs.Math.Seq.{drop-append_seam}
 use Rattle.component_store.proofs.Readers.{one_config}
 
 -- the zeros at the end of a head
@@ -97,3 +100,16 @@ new_image v image new = record {
   spelled = new.spelled;
   room = omega (arith, length-replicate {A = ℕ} (region_size (journal_region v.quota)) 0);
 }
+
+-- zeros behind so many bytes stand for the empty list
+zeros_behind_front : (region : Region) (front image : List ℕ) → length front ≡ region.at → 0 < region.half → image ≡ front ++ replicate {A = ℕ} (region_size region) 0 → RegionStands region image []
+zeros_behind_front region front image size room spelled =
+    let zeros = replicate {A = ℕ} (region_size region) 0 in
+    let count : length zeros ≡ region_size region = length-replicate {A = ℕ} (region_size region) 0 in
+    let long : length image ≡ region.at + region_size region = ap length spelled ∙ length-append front zeros ∙ omega (arith, size, count) in
+    let behind : drop region.at image ≡ zeros = ap (drop region.at) spelled ∙ ap (λ (k : ℕ). drop k (front ++ zeros)) (sym size) ∙ drop-append_seam front zeros in
+    zeros_law region image (omega (arith, long)) room (ap (take (region_size region)) behind ∙ take_all (region_size region) zeros (omega (arith, count)))
+
+-- the journal of a new image stands for the empty list
+pub empty_journal : (v : Config) (image : List ℕ) → IsNewImage v image → RegionStands (journal_region v.quota) image []
+empty_journal v image new = zeros_behind_front (journal_region v.quota) (head_bytes new.config) image (head_size new.config new.is.short) (omega arith) new.spelled

@@ -3,6 +3,5 @@ pub mod Forms
 pub mod Sign1s
 pub mod Keys
 pub mod SignedItems
-pub mod Wholes
 pub mod There
 pub mod Public

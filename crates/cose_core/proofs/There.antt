@@ -8,7 +8,6 @@ use Rattle.cbor_core.specs.declared.item.Item.TheVariants as i
 use Rattle.cbor_core.specs.Spelling.{HasRanges, Spells}
 use Rattle.cbor_core.specs.Views.{field, map_of}
 use Rattle.cose_core.proofs.Views.{negative_of}
-use Rattle.cbor_core.proofs.Inputs.{one_for_one}
 use Rattle.cose_core.specs.declared.sign1.Sign1.{Sign1}
 use Rattle.cose_core.specs.declared.fault.CoseFault.{CoseFault}
 use Rattle.cose_core.specs.declared.fault.CoseFault.TheVariants as faults
@@ -19,7 +18,7 @@ use Rattle.cose_core.specs.Reading.{form_of, CheckedAs, ReadAs}
 use Rattle.cose_core.proofs.Views.{negative_is, negative_back}
 use Rattle.cbor_core.proofs.Public.Views.{map_is, map_back}
 use Rattle.cose_core.proofs.Forms.{form_is}
-use Rattle.cose_core.proofs.Wholes.{whole_or_fault}
+use Rattle.cbor_core.proofs.Public.Whole.{exactly_one_whole, one_for_one}
 use Rattle.cose_core.proofs.Sign1s.{not_checked}
 
 -- ---- an algorithm is HSS/LMS, or it is not
@@ -77,7 +76,7 @@ checked : (bytes : List ℕ) → IsBytes bytes → Answered (CheckedAs {T = Unit
 checked [] are = judged [] [] (inl (refl, refl))
 checked (b ∷ bs) are =
     let some : b ∷ bs ≡ [] → ⊥ = λ e. cc in
-    elim (whole_or_fault (b ∷ bs) are) [
+    elim (exactly_one_whole (b ∷ bs) are) [
       | inl one ↦ by_map (b ∷ bs) one.item (map_of one.item) some one.spelled refl
       | inr fails ↦ unwrapped (b ∷ bs) some (λ headers s. fails.no_item (i.Map headers) s)
     ]

@@ -3,7 +3,7 @@ use Rattle.std.proofs.Common.{◌≡◌, ◌⊎◌, ℕ, List, Result, Ok, Err, 
 use Rattle.cbor_core.specs.declared.item.Item.{Item}
 use Rattle.cbor_heads.specs.declared.fault.Fault.{Fault}
 use Rattle.cbor_core.specs.Spelling.{Spells}
-use Rattle.cbor_core.specs.Law.{IsFaultyWhole}
+use Rattle.cbor_core.specs.Law.{IsFaultyWhole, OneFaultWhole}
 use Rattle.cose_core.specs.declared.sign1.Sign1.{Sign1}
 use Rattle.cose_core.specs.declared.fault.CoseFault.{CoseFault}
 use Rattle.cose_core.specs.declared.fault.CoseFault.TheVariants as faults
@@ -12,7 +12,7 @@ use Rattle.cose_core.specs.Reading.{ReadAs}
 use Rattle.cose_core.specs.Law.{ExactlyOne, OneEnvelope}
 use Rattle.cose_core.proofs.Forms.{form_at}
 use Rattle.cose_core.proofs.Sign1s.{is_found, is_bad, is_only, is_refused}
-use Rattle.cose_core.proofs.Wholes.{FailsOnce, whole_or_fault, no_fault}
+use Rattle.cbor_core.proofs.Public.Whole.{exactly_one_whole, no_fault}
 use Rattle.cose_core.proofs.There.{answered}
 
 -- the item that the bytes spell
@@ -59,9 +59,9 @@ module _ (bytes : List ℕ) where
     ])
   ]
 
-  by_fault : FailsOnce bytes → ExactlyOne (λ (w : Sign1). Sign1Is w bytes) (λ (e : CoseFault). RefusedAs bytes e)
-  by_fault fails = refusal (faults.NotCose fails.fault) fails.faulty (λ e bad. is_not_cose e bad) where
-    is_not_cose : (e : CoseFault) → RefusedAs bytes e → e ≡ faults.NotCose fails.fault
+  by_fault : OneFaultWhole bytes → ExactlyOne (λ (w : Sign1). Sign1Is w bytes) (λ (e : CoseFault). RefusedAs bytes e)
+  by_fault fails = refusal (faults.NotCose fails.first) fails.firsty (λ e bad. is_not_cose e bad) where
+    is_not_cose : (e : CoseFault) → RefusedAs bytes e → e ≡ faults.NotCose fails.first
     is_not_cose (faults.NotCose f) bad = ap (λ (g : Fault). faults.NotCose g) (fails.alone f bad)
     is_not_cose faults.Shape bad = absurd (fails.no_item bad.item bad.spelled)
     is_not_cose faults.WrongAlg bad = absurd (let x = spelled_item bytes bad.value bad.form.spelled in fails.no_item x.0 x.1)
@@ -70,7 +70,7 @@ module _ (bytes : List ℕ) where
 
 -- bytes are a value, or have a refusal
 pub envelope_or_refused : OneEnvelope
-envelope_or_refused bytes are = elim (whole_or_fault bytes are) [
+envelope_or_refused bytes are = elim (exactly_one_whole bytes are) [
   | inl one ↦ (let a = answered one.item one.spelled.ranges in by_item bytes one.item a.result one.spelled one.no_fault a.answers a.not_memory)
   | inr fails ↦ by_fault bytes fails
 ]

@@ -1,4 +1,6 @@
-use Rattle.std.proofs.Common.{Err, arith, subst}
+use Rattle.std.proofs.Common.{◌≡◌, Err, ap, arith, subst}
+use Rattle.journal_core.specs.Region.{region_size}
+use Rattle.component_store.specs.Image.{journal_region}
 use Rattle.component_store.specs.declared.fault.ConfigFault.{ConfigFault}
 use Rattle.component_store.specs.Answers.{IsFound}
 use Rattle.component_store.proofs.Images.{without_head, without_config, without_room, with_room}
@@ -11,8 +13,8 @@ pub returns-in-Err-BadConfig-clause-loaded : goal.returns-in-Err-BadConfig-claus
 returns-in-Err-BadConfig-clause-loaded c = λ image size front. without_config image c.args.head.now front c.in-Some.bytes.now c.in-Some.ensures
     (λ v is. subst (λ (e : ConfigFault). IsFound (Err e) v) c.in-Err-BadConfig.field-0-is (c.in-Err-BadConfig.ensures.only v is))
 
-pub returns-then-size-region_of-clause-loaded : goal.returns-then-size-region_of-clause-loaded
-returns-then-size-region_of-clause-loaded c = λ image size front. without_room image c.args.head.now front c.in-Some.bytes.now c.in-Some.ensures c.in-Ok.config c.in-Ok.ensures.found (omega (arith, size))
+pub returns-then-size-clause-loaded : goal.returns-then-size-clause-loaded
+returns-then-size-clause-loaded c = λ image size front. without_room image c.args.head.now front c.in-Some.bytes.now c.in-Some.ensures c.in-Ok.config c.in-Ok.ensures.found (let room : region_size c.journal_of.result ≡ region_size (journal_region c.in-Ok.config.quota) = ap region_size c.journal_of.ensures.region in omega (arith, size, room))
 
 pub returns-clause-loaded : goal.returns-clause-loaded
-returns-clause-loaded c = λ image size front. with_room image c.args.head.now front c.in-Some.bytes.now c.in-Some.ensures c.in-Ok.config c.in-Ok.ensures.found (omega (arith, size))
+returns-clause-loaded c = λ image size front. with_room image c.args.head.now front c.in-Some.bytes.now c.in-Some.ensures c.in-Ok.config c.in-Ok.ensures.found (let room : region_size c.journal_of.result ≡ region_size (journal_region c.in-Ok.config.quota) = ap region_size c.journal_of.ensures.region in omega (arith, size, room))
