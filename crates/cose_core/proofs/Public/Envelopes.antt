@@ -60,7 +60,7 @@ module _ (bytes : List ℕ) where
   ]
 
   by_fault : OneFaultWhole bytes → ExactlyOne (λ (w : Sign1). Sign1Is w bytes) (λ (e : CoseFault). RefusedAs bytes e)
-  by_fault fails = refusal (faults.NotCose fails.first) fails.firsty (λ e bad. is_not_cose e bad) where
+  by_fault fails = refusal (faults.NotCose fails.first) fails.faulty (λ e bad. is_not_cose e bad) where
     is_not_cose : (e : CoseFault) → RefusedAs bytes e → e ≡ faults.NotCose fails.first
     is_not_cose (faults.NotCose f) bad = ap (λ (g : Fault). faults.NotCose g) (fails.alone f bad)
     is_not_cose faults.Shape bad = absurd (fails.no_item bad.item bad.spelled)
