@@ -2,6 +2,7 @@ pub mod Views
 pub mod Forms
 pub mod Sign1s
 pub mod Keys
-pub mod SignedItems
+pub mod Ranges
+pub mod Written
 pub mod There
 pub mod Public

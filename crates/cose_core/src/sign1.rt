@@ -1,5 +1,5 @@
-ghost use Rattle.std.specs.Prelude.{◌≡◌, ◌⊎◌, ◌↔◌, IsTrue, IfOk, IfErr, option_map};
-ghost use Rattle.cbor_core.specs.Spelling.{IsProper, Spells};
+ghost use Rattle.std.specs.Prelude.{◌≡◌, ◌⊎◌, ◌↔◌, ◌++◌, IsTrue, IfOk, IfErr, OnOk, option_map};
+ghost use Rattle.cbor_core.specs.Spelling.{spelling, IsProper, HasRangesWithin, Spells};
 ghost use Rattle.cose_core.specs.Reading.{content_of, payload_of, four_by, members_by, form_of, ReadAs};
 ghost use Rattle.cose_core.specs.Sign1 as Sign1s;
 
@@ -9,6 +9,7 @@ use crate::labels::{HEADER_KID, SIGN1_TAG};
 use base_types::{Boxed, List, Octets, OrMemory};
 use cbor_core::{Item, Pair, copy_pairs, decode_whole, encode, field, is_proper};
 use cbor_fields::{into_bytes, into_map};
+use cbor_heads::Writer;
 use std::alloc::Global;
 
 /// A message with one signature: COSE_Sign1 (RFC 9052, section 4.2).
@@ -165,7 +166,8 @@ impl Sign1 {
     }
 
     /// The tagged form of a value (RFC 9052, section 4.2): tag 18 and the four members. Its item is
-    /// proper, as it is of each value for which `is_proper` says yes. Refused for want of memory alone.
+    /// proper, as it is of each value for which `is_proper` says yes. The payload is copied once. Refused
+    /// for want of memory alone.
     pub fn write(&self, alloc: Global) -> OrMemory<Octets>
         requires { IsProper (tagged self.now) }
         // The bytes spell the tagged form.
@@ -175,8 +177,35 @@ impl Sign1 {
         // Of what was read, they are the bytes that it was read from, in their tagged form.
         ensures form { IfOk result (λ bytes. IsTaggedForm self.now bytes) }
     {
-        let item = self.to_item(alloc)?;
-        encode(alloc, &item)
+        let headers = self.headers(alloc)?;
+        let mut out = Writer::new(alloc);
+        out.tag(SIGN1_TAG)?;
+        out.array(4)?;
+        out.bytes(self.protected.as_slice())?;
+        out.piece(headers.as_slice())?;
+        put_payload(&mut out, &self.payload)?;
+        out.bytes(self.signature.as_slice())?;
+        Ok(out.into_octets())
+    }
+
+    /// The headers that are not signed, encoded.
+    fn headers(&self, alloc: Global) -> OrMemory<Octets>
+        requires { IsProper (Item.Map self.now.unprotected) }
+        ensures { IfOk result (λ bytes. Spells (Item.Map self.now.unprotected) bytes) }
+    {
+        let headers = Item::Map(copy_pairs(alloc, self.unprotected.as_slice())?);
+        encode(alloc, &headers)
+    }
+}
+
+/// Writes a payload: null for none.
+fn put_payload(out: &mut Writer, payload: &Option<Octets>) -> OrMemory<()>
+    ensures written { OnOk result (out.new ≡ out.old ++ spelling (Sign1s.payload_item payload.now)) }
+    ensures range { HasRangesWithin 14 (Sign1s.payload_item payload.now) }
+{
+    match payload {
+        Some(bytes) => out.bytes(bytes.as_slice()),
+        None => out.null(),
     }
 }
 

@@ -29,8 +29,8 @@ told e = cc
 pub id_exact : Exact id_of decoded IsIdentifier
 id_exact = record {
   fixes = id_determines;
-  proper = λ x bytes s e. (let known = id_gives x bytes s e in (x, known.0, known.1));
-  seen = λ bytes is. id_seen bytes is.0 is.1 is.2;
+  proper = λ x bytes s e. (x, id_gives x bytes s e);
+  seen = λ bytes is. id_seen bytes is.0 is.1.0 is.1.1;
 }
 
 id : Part NoMemory (shaped Shape id_of) decoded IsIdentifier
