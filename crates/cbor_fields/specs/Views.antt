@@ -20,14 +20,17 @@ list_of view x = option_and_then (each_of view) (array_of x)
 
 -- ---- identifiers
 
+-- a byte string, by its layer
 abbrev pub is_bytes_by : Item-F Item Pair → Bool
 is_bytes_by (Item-F.Bytes bytes) = true
 is_bytes_by _ = false
 
+-- each item is a byte string
 abbrev pub all_bytes : List Item → Bool
 all_bytes [] = true
 all_bytes (x ∷ xs) = if is_bytes_by (out-Item x) then all_bytes xs else false
 
+-- an array of one or more byte strings, by its layer
 abbrev pub is_id_by : Item-F Item Pair → Bool
 is_id_by (Item-F.Array (x ∷ xs)) = all_bytes (x ∷ xs)
 is_id_by _ = false
@@ -63,6 +66,7 @@ field_of view label pairs = optional view (field label pairs)
 abbrev pub needed_of : {B : Type 0} → (Item → Option B) → ℕ → List Pair → Option B
 needed_of view label pairs = option_and_then view (field label pairs)
 
+-- a key is the number -1-n
 abbrev pub negative_labelled_by : ℕ → Item-F Item Pair → Bool
 negative_labelled_by label (Item-F.Negative n) = n == label
 negative_labelled_by label _ = false

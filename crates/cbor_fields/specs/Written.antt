@@ -27,6 +27,7 @@ abbrev pub whole : Item → List ℕ → Item
 whole x [] = x
 whole x (byte ∷ bytes) = i.Null
 
+-- the item that was read, and null where a fault was
 abbrev pub decoded_by : Outcome Fault Item → Item
 decoded_by (Ok x) = whole x.0 x.1.rest
 decoded_by (Err f) = i.Null
@@ -41,6 +42,7 @@ decoded bytes = decoded_by (item_at CBOR_DEPTH_LIMIT (start bytes))
 abbrev pub labelled : ℕ → Item → Pair
 labelled label x = record { key = i.Unsigned label; value = x }
 
+-- the key is a number below the label, by its layer
 abbrev pub is_below_by : ℕ → Item-F Item Pair → Bool
 is_below_by label (Item-F.Unsigned n) = nat_lt n label
 is_below_by label _ = false
