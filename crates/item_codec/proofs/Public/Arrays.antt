@@ -24,7 +24,8 @@ pub record Makes {S E : Type 0} (none : E) (members : S → List Item) (more : R
   pub proper : AllByRecursion IsSpelled xs → (value : S) → more ≡ Ok value → Q value
 
 -- one part more
-pub part_makes : {V S E : Type 0} {none : E} {view : Item → Result V E} {item : V → Item} {P : V → Type 0} (one : Part none view item P) (x : Item) (members : S → List Item) (others : V → Result S E) (front : Item → List Item) {Q : S → Type 0}
+pub part_makes : {V S E : Type 0} {none : E} {view : Item → Result V E} {item : V → Item} {P : V → Type 0} (one : Part none view item P) (x : Item) (members : S → List Item)
+    (others : V → Result S E) (front : Item → List Item) {Q : S → Type 0}
     → (AllByRecursion IsSpelled (front x) → IsSpelled x) → ((v : V) → Makes none members (others v) (front (item v)) (λ value. P v → Q value)) → Makes none members (part view x others) (front x) Q
 part_makes {V} {S} {E} {none = none} {view = view} {item = item} one x members others front {Q} spelled more = record {
   settled = then_settled none others (view x) (one.settled x) (λ v. (more v).settled);
@@ -65,12 +66,14 @@ choice_makes {S} {E} {none} kind n members here other front {Q} at_n at_other = 
 -- ---- what was written
 
 -- one part more is read again
-pub part_seen : {V S E : Type 0} {none : E} {view : Item → Result V E} {item : V → Item} {P : V → Type 0} (one : Part none view item P) (v : V) (others : V → Result S E) (value : S) → P v → others v ≡ Ok value → part view (item v) others ≡ Ok value
+pub part_seen : {V S E : Type 0} {none : E} {view : Item → Result V E} {item : V → Item} {P : V → Type 0} (one : Part none view item P) (v : V) (others : V → Result S E) (value : S) → P v
+    → others v ≡ Ok value → part view (item v) others ≡ Ok value
 part_seen one v others value is e = rw (one.seen v is) e
 
 -- ---- the array as a part
 
-pub array_part : {S E : Type 0} (none fault : E) (read : List Item → Result S E) (members : S → List Item) (P : S → Type 0) → (fault ≡ none → ⊥) → ((xs : List Item) → Makes none members (read xs) xs P)
+pub array_part : {S E : Type 0} (none fault : E) (read : List Item → Result S E) (members : S → List Item) (P : S → Type 0) → (fault ≡ none → ⊥)
+    → ((xs : List Item) → Makes none members (read xs) xs P)
     → ((v : S) → P v → read (members v) ≡ Ok v) → Part none (in_array fault read) (λ v. i.Array (members v)) P
 array_part {S} {E} none fault read members P told makes seen = record {
   settled = λ x. then_settled none read (or_fault fault (array_of x)) (fault_settled none fault told (array_of x)) (λ xs. (makes xs).settled);

@@ -104,7 +104,8 @@ module _ {E : Type 0} (none : E) (least most : ℕ) (shape size : E) (told_shape
 
   pub sized_part : Part none (sized least most shape size) (λ b. i.Bytes b) (IsWithin least most)
   sized_part = record {
-    settled = λ x. then_settled none (within least most size) (or_fault shape (bytes_of x)) (fault_settled none shape told_shape (bytes_of x)) (λ b. by_test (nat_le least (length b) && nat_le (length b) most) b);
+    settled = λ x. then_settled none (within least most size) (or_fault shape (bytes_of x)) (fault_settled none shape told_shape (bytes_of x))
+        (λ b. by_test (nat_le least (length b) && nat_le (length b) most) b);
     fixes = λ x b s e. (let p = by_bytes x b (bytes_of x) refl e in p.0);
     proper = λ x b s e. (let p = by_bytes x b (bytes_of x) refl e in p.1);
     seen = λ b is. rw i.outs-Bytes (has_size b is);

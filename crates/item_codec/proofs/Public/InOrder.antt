@@ -106,7 +106,8 @@ none_other (n ∷ ns) (Item-F.Tag m x) none = none_other ns (Item-F.Tag m x) tt
 none_other (n ∷ ns) (Item-F.Truth b) none = none_other ns (Item-F.Truth b) tt
 none_other (n ∷ ns) Item-F.Null none = none_other ns Item-F.Null tt
 
-above_by : (label : ℕ) (done : List ℕ) (l : Item-F Item Pair) → label < 256 → all_most label done ≡ true → bytes_below (spelling (i.Unsigned label)) (spelling (roll-Item l)) ≡ true → is_among (label ∷ done) l ≡ false
+above_by : (label : ℕ) (done : List ℕ) (l : Item-F Item Pair) → label < 256 → all_most label done ≡ true → bytes_below (spelling (i.Unsigned label)) (spelling (roll-Item l)) ≡ true
+    → is_among (label ∷ done) l ≡ false
 above_by label done (Item-F.Unsigned m) small most below =
     let h : bytes_below (spelling (i.Unsigned label)) (spelling (i.Unsigned m)) ≡ true = subst (λ (y : Item). bytes_below (spelling (i.Unsigned label)) (spelling y) ≡ true) (i.rolls-Unsigned m) below in
     let lt : label < m = numbers_ascend label m small h in
@@ -118,7 +119,8 @@ above_by label done _ small most below = none_other done _ tt
 key_of : (label : ℕ) (key : Item) → labelled_by label (out-Item key) ≡ true → key ≡ i.Unsigned label
 key_of label key is = sym (roll-out-Item key) ∙ key_is label (out-Item key) is
 
-behind_label : (label : ℕ) (done : List ℕ) (p : Pair) (ps : List Pair) → label < 256 → all_most label done ≡ true → labelled_by label (out-Item p.key) ≡ true → KeysAscend (spelling p.key) ps → IsFree (label ∷ done) ps
+behind_label : (label : ℕ) (done : List ℕ) (p : Pair) (ps : List Pair) → label < 256 → all_most label done ≡ true → labelled_by label (out-Item p.key) ≡ true → KeysAscend (spelling p.key) ps
+    → IsFree (label ∷ done) ps
 behind_label label done p [] small most is ascend = tt
 behind_label label done p (q ∷ qs) small most is ascend =
     let h : bytes_below (spelling (i.Unsigned label)) (spelling q.key) ≡ true = subst (λ (k : Item). bytes_below (spelling k) (spelling q.key) ≡ true) (key_of label p.key is) ascend.0 in
@@ -132,7 +134,8 @@ pub record InOrder {S E : Type 0} (table : List (Check E)) (other : Pair → E) 
 
 module _ {S E : Type 0} (table : List (Check E)) (other : Pair → E) where
   module _ {V : Type 0} (view : Item → Result V E) (label : ℕ) (done : List ℕ) (small : label < 256) (most : all_most label done ≡ true)
-      (finds : (e : E) (x : Item) → at_number table label e x ≡ refusal (view x)) (others : Option V → List Pair → Result S E) (more : (o : Option V) → InOrder {S = S} table other (label ∷ done) (others o)) where
+      (finds : (e : E) (x : Item) → at_number table label e x ≡ refusal (view x)) (others : Option V → List Pair → Result S E)
+      (more : (o : Option V) → InOrder {S = S} table other (label ∷ done) (others o)) where
     judged : (p : Pair) (l : Item-F Item Pair) → labelled_by label l ≡ true → judge_by table (other p) p.value l ≡ refusal (view p.value)
     judged p (Item-F.Unsigned n) is = let e : n ≡ label = eqb-true n label is in ap (λ (k : ℕ). at_number table k (other p) p.value) e ∙ finds (other p) p.value
     judged p _ is = absurd cc
@@ -146,7 +149,8 @@ module _ {S E : Type 0} (table : List (Check E)) (other : Pair → E) where
         let j : judge table other p ≡ None = judged p (out-Item p.key) is ∙ ap (λ (r : Result V E). refusal r) at in
         (more (Some v)).holds ps (spelling p.key) ascend (behind_label label done p ps small most is ascend) ∙ sym (ap (λ (o : Option E). or_later o (first_refused (judge table other) ps)) j)
 
-    by_key : (p : Pair) (ps : List Pair) (last : List ℕ) → KeysAscend last (p ∷ ps) → IsFree done (p ∷ ps) → (b : Bool) → labelled_by label (out-Item p.key) ≡ b → refusal (field view label (p ∷ ps) others) ≡ first_refused (judge table other) (p ∷ ps)
+    by_key : (p : Pair) (ps : List Pair) (last : List ℕ) → KeysAscend last (p ∷ ps) → IsFree done (p ∷ ps) → (b : Bool) → labelled_by label (out-Item p.key) ≡ b
+        → refusal (field view label (p ∷ ps) others) ≡ first_refused (judge table other) (p ∷ ps)
     by_key p ps last ascend free true is = rw is (by_view p ps ascend.1 is (view p.value) refl)
     by_key p ps last ascend free false is = rw is ((more None).holds (p ∷ ps) last ascend (rw is free))
 
@@ -184,6 +188,7 @@ none_in_order {S} {E} table other done all made = record { holds = holds } where
   holds (p ∷ ps) last ascend free = sym (ap (λ (o : Option E). or_later o (first_refused (judge table other) ps)) (judged p (out-Item p.key) free))
 
 -- the whole
-pub in_order : {S E : Type 0} (table : List (Check E)) (other : Pair → E) (others : List Pair → Result S E) → InOrder table other [] others → (ps : List Pair) → KeysAscend [] ps → refusal (others ps) ≡ first_refused (judge table other) ps
+pub in_order : {S E : Type 0} (table : List (Check E)) (other : Pair → E) (others : List Pair → Result S E) → InOrder table other [] others → (ps : List Pair) → KeysAscend [] ps
+    → refusal (others ps) ≡ first_refused (judge table other) ps
 in_order table other others is [] ascend = is.holds [] [] ascend tt
 in_order table other others is (p ∷ ps) ascend = is.holds (p ∷ ps) [] ascend refl

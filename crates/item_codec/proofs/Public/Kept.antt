@@ -26,15 +26,19 @@ pub record Keeps {S E : Type 0} (none : E) (rows : S → List Pair) (ps : List P
   pub back : ArePairs ps → (value : S) → more ≡ Ok value → so_far ≡ others labels ps → rows value ≡ ps
   pub proper : ArePairs ps → (value : S) → more ≡ Ok value → Q value
 
-module _ {V S E : Type 0} {none : E} {view : Item → Result V E} {item : V → Item} {P : V → Type 0} (part : Part none view item P) (label : ℕ) (labels : List ℕ) (small : label < 24) (new : IsNew label labels)
-    (rows : S → List Pair) (ps : List Pair) (more : Option V → Result S E) (so_far : List Pair) {Q : S → Type 0} (keeps : (o : Option V) → Keeps none rows ps (more o) (put_if item label o so_far) labels (λ value. IfSome o P → Q value)) where
-  by_view : (are : ArePairs ps) (value : S) → so_far ≡ others (label ∷ labels) ps → (x : Item) → field label ps ≡ Some x → (r : Result V E) → view x ≡ r → and_then more (mapped (λ (v : V). Some v) r) ≡ Ok value → rows value ≡ ps
+module _ {V S E : Type 0} {none : E} {view : Item → Result V E} {item : V → Item} {P : V → Type 0} (part : Part none view item P) (label : ℕ) (labels : List ℕ) (small : label < 24)
+    (new : IsNew label labels)
+    (rows : S → List Pair) (ps : List Pair) (more : Option V → Result S E) (so_far : List Pair) {Q : S → Type 0}
+    (keeps : (o : Option V) → Keeps none rows ps (more o) (put_if item label o so_far) labels (λ value. IfSome o P → Q value)) where
+  by_view : (are : ArePairs ps) (value : S) → so_far ≡ others (label ∷ labels) ps → (x : Item) → field label ps ≡ Some x → (r : Result V E) → view x ≡ r
+      → and_then more (mapped (λ (v : V). Some v) r) ≡ Ok value → rows value ≡ ps
   unfolding put_if
   by_view are value is x at (Err fault) e h = absurd cc
   by_view are value is x at (Ok v) e h =
       let same : x ≡ item v = part.fixes x v (value_spelled label ps x are.spelled at) e in
       let back : put_option label (field label ps) (others (label ∷ labels) ps) ≡ others labels ps = restored label labels small new [] ps are.ascend in
-      let put_back : put_option label (Some x) so_far ≡ others labels ps = ap (put_option label (Some x)) is ∙ ap (λ (o : Option Item). put_option label o (others (label ∷ labels) ps)) (sym at) ∙ back in
+      let put_back : put_option label (Some x) so_far ≡ others labels ps =
+      ap (put_option label (Some x)) is ∙ ap (λ (o : Option Item). put_option label o (others (label ∷ labels) ps)) (sym at) ∙ back in
       (keeps (Some v)).back are value h (ap (λ (y : Item). put_option label (Some y) so_far) (sym same) ∙ put_back)
 
   by_item : (are : ArePairs ps) (value : S) → so_far ≡ others (label ∷ labels) ps → (o : Option Item) → field label ps ≡ o → and_then more (optional_at view o) ≡ Ok value → rows value ≡ ps
@@ -61,7 +65,8 @@ module _ {V S E : Type 0} {none : E} {view : Item → Result V E} {item : V → 
   }
 
 -- all fields are read
-pub all_keep : {S E : Type 0} (none : E) (rows : S → List Pair) (ps : List Pair) (made : S) (so_far : List Pair) {Q : S → Type 0} → rows made ≡ so_far → Q made → Keeps none rows ps (Ok made) so_far [] Q
+pub all_keep : {S E : Type 0} (none : E) (rows : S → List Pair) (ps : List Pair) (made : S) (so_far : List Pair) {Q : S → Type 0} → rows made ≡ so_far → Q made
+    → Keeps none rows ps (Ok made) so_far [] Q
 all_keep none rows ps made so_far {Q} are proper = record {
   settled = tt;
   back = λ _ value e is. (let same : value ≡ made = cc in ap rows same ∙ are ∙ is ∙ all_others ps);
@@ -71,7 +76,8 @@ all_keep none rows ps made so_far {Q} are proper = record {
 -- ---- what was written
 
 -- one field more is read again, where it is found
-pub known_seen : {V S E : Type 0} {none : E} {view : Item → Result V E} {item : V → Item} {P : V → Type 0} (part : Part none view item P) (more : Option V → Result S E) (o : Option V) (found : Option Item) (value : S)
+pub known_seen : {V S E : Type 0} {none : E} {view : Item → Result V E} {item : V → Item} {P : V → Type 0} (part : Part none view item P) (more : Option V → Result S E) (o : Option V)
+    (found : Option Item) (value : S)
     → IfSome o P → found ≡ option_or (option_map item o) None → more o ≡ Ok value → known view found more ≡ Ok value
 known_seen part more None found value is at e = rw at e
 known_seen part more (Some v) found value is at e = rw (at, part.seen v is) e

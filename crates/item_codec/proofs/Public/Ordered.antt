@@ -104,7 +104,8 @@ module _ {V S E : Type 0} {none : E} {view : Item → Result V E} {item : V → 
     by_view p ps is all (Err fault) at e = absurd cc
     by_view p ps is all (Ok v) at e = record { found = Some v; rest = ps; is = row_is part label p ps v is all.0.1 at; has = part.proper p.value v all.0.1 at; spelled = all.1; more = e }
 
-    by_key : (p : Pair) (ps : List Pair) → AreSpelled (p ∷ ps) → (b : Bool) → labelled_by label (out-Item p.key) ≡ b → field view label (p ∷ ps) others ≡ Ok value → FieldRead item P label (p ∷ ps) others value
+    by_key : (p : Pair) (ps : List Pair) → AreSpelled (p ∷ ps) → (b : Bool) → labelled_by label (out-Item p.key) ≡ b → field view label (p ∷ ps) others ≡ Ok value
+        → FieldRead item P label (p ∷ ps) others value
     by_key p ps all true is e = by_view p ps is all (view p.value) refl (rw is at e)
     by_key p ps all false is e = record { found = None; rest = p ∷ ps; is = refl; has = tt; spelled = all; more = rw is at e }
 
@@ -118,7 +119,8 @@ module _ {V S E : Type 0} {none : E} {view : Item → Result V E} {item : V → 
     needed_by_view p ps is all (Err fault) at e = absurd cc
     needed_by_view p ps is all (Ok v) at e = record { found = v; rest = ps; is = row_is part label p ps v is all.0.1 at; has = part.proper p.value v all.0.1 at; spelled = all.1; more = e }
 
-    needed_by_key : (p : Pair) (ps : List Pair) → AreSpelled (p ∷ ps) → (b : Bool) → labelled_by label (out-Item p.key) ≡ b → needed view missing label (p ∷ ps) others ≡ Ok value → NeededRead item P label (p ∷ ps) others value
+    needed_by_key : (p : Pair) (ps : List Pair) → AreSpelled (p ∷ ps) → (b : Bool) → labelled_by label (out-Item p.key) ≡ b → needed view missing label (p ∷ ps) others ≡ Ok value
+        → NeededRead item P label (p ∷ ps) others value
     needed_by_key p ps all true is e = needed_by_view p ps is all (view p.value) refl (rw is at e)
     needed_by_key p ps all false is e = absurd (let h : Err missing ≡ Ok value = rw is at e in cc)
 
@@ -139,7 +141,8 @@ field_reads {V} {none = none} {view = view} part label rows others front more = 
 }
 
 -- a field more that must be there
-pub needed_reads : {V S E : Type 0} {none : E} {view : Item → Result V E} {item : V → Item} {P : V → Type 0} (part : Part none view item P) (missing : E) (told : missing ≡ none → ⊥) (label : ℕ) (rows : S → List Pair)
+pub needed_reads : {V S E : Type 0} {none : E} {view : Item → Result V E} {item : V → Item} {P : V → Type 0} (part : Part none view item P) (missing : E) (told : missing ≡ none → ⊥) (label : ℕ)
+    (rows : S → List Pair)
     (others : V → List Pair → Result S E) (front : List Pair → List Pair) {Q : S → Type 0}
     → ((v : V) → Reads none rows (others v) (λ ps. front (needed_row item label v ps)) (λ value. P v → Q value)) → Reads none rows (λ ps. needed view missing label ps others) front Q
 needed_reads {V} {none = none} {view = view} part missing told label rows others front more = record {
@@ -151,7 +154,8 @@ needed_reads {V} {none = none} {view = view} part missing told label rows others
 }
 
 -- no field is left
-pub none_reads : {S E : Type 0} (none : E) (rows : S → List Pair) (fault : Pair → E) → ((p : Pair) → fault p ≡ none → ⊥) → (made : S) (front : List Pair → List Pair) {Q : S → Type 0} → front [] ≡ rows made → Q made
+pub none_reads : {S E : Type 0} (none : E) (rows : S → List Pair) (fault : Pair → E) → ((p : Pair) → fault p ≡ none → ⊥) → (made : S) (front : List Pair → List Pair) {Q : S → Type 0}
+    → front [] ≡ rows made → Q made
     → Reads none rows (λ ps. no_more fault ps made) front Q
 none_reads {S} {E} none rows fault told made front {Q} are has = record { settled = settled; back = back; proper = proper } where
   settled : (ps : List Pair) → IsSettled none (no_more fault ps made)
@@ -190,7 +194,8 @@ module _ {V S E : Type 0} {none : E} {view : Item → Result V E} {item : V → 
     row_above lower lt (Some v) qs above = rw i.outs-Unsigned lt
 
     -- a row behind a label
-    pub next_row : (o : Option V) → IfSome o P → (lower : ℕ) → nat_lt lower label ≡ true → RowsRead label (others o) ps value → RowsRead lower (λ qs. field view label qs others) (row item label o ps) value
+    pub next_row : (o : Option V) → IfSome o P → (lower : ℕ) → nat_lt lower label ≡ true → RowsRead label (others o) ps value
+        → RowsRead lower (λ qs. field view label qs others) (row item label o ps) value
     next_row o is lower lt more = record { above = row_above lower lt o ps more.above; reads = first_row o is more }
 
   module _ (missing : E) (others : V → List Pair → Result S E) (v : V) (ps : List Pair) (value : S) (is : P v) where

@@ -83,7 +83,8 @@ all_pass none ps made {Q} proper = record { settled = tt; proper = λ _ value e.
 -- ---- what was written
 
 -- a field that must be there is read again, where it is found
-pub required_seen : {V S E : Type 0} {none : E} {view : Item → Result V E} {item : V → Item} {P : V → Type 0} (part : Part none view item P) (missing : E) (more : V → Result S E) (v : V) (found : Option Item) (value : S)
+pub required_seen : {V S E : Type 0} {none : E} {view : Item → Result V E} {item : V → Item} {P : V → Type 0} (part : Part none view item P) (missing : E) (more : V → Result S E) (v : V)
+    (found : Option Item) (value : S)
     → P v → found ≡ Some (item v) → more v ≡ Ok value → required view missing found more ≡ Ok value
 required_seen part missing more v found value is at e = rw (at, part.seen v is) e
 

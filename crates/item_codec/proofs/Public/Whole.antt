@@ -60,7 +60,8 @@ module _ {V E : Type 0} (none : E) (cbor : Fault → E) (told : (f : Fault) → 
 -- ---- what a reader of bytes answers
 
 -- what is answered of the item that bytes spell is answered of the bytes
-pub item_answers : {V E : Type 0} (none : E) (cbor : Fault → E) (view : Item → Result V E) (bytes : List ℕ) (x : Item) (r : Result V E) → Spells x bytes → Answers none (view x) r → BytesAnswer none cbor view bytes r
+pub item_answers : {V E : Type 0} (none : E) (cbor : Fault → E) (view : Item → Result V E) (bytes : List ℕ) (x : Item) (r : Result V E) → Spells x bytes → Answers none (view x) r
+    → BytesAnswer none cbor view bytes r
 item_answers none cbor view bytes x (Ok v) s is = record { item = x; spelled = s; is = is }
 item_answers none cbor view bytes x (Err e) s (inl is) = inr (inr (record { item = x; spelled = s; is = is }))
 item_answers none cbor view bytes x (Err e) s (inr memory) = inl memory

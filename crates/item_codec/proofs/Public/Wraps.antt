@@ -46,7 +46,8 @@ module _ {V E : Type 0} {none : E} {view : Item → Result V E} {item : V → It
   pub wrapped_part : Part none (wrapped fault view) (wrap item) (IsWrappable item P)
   wrapped_part = record {
     settled = λ x. then_settled none view (unwrapped fault x)
-        (then_settled none (λ bytes. or_fault fault (item_in bytes)) (or_fault fault (bytes_of x)) (fault_settled none fault told (bytes_of x)) (λ bytes. fault_settled none fault told (item_in bytes))) part.settled;
+        (then_settled none (λ bytes. or_fault fault (item_in bytes)) (or_fault fault (bytes_of x)) (fault_settled none fault told (bytes_of x))
+        (λ bytes. fault_settled none fault told (item_in bytes))) part.settled;
     fixes = λ x v s e.
         (let c = content_of x v s e in
         let same : c.content ≡ item v = part.fixes c.content v (respelled c.content c.bytes c.spelled) c.is in
