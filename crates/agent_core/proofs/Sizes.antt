@@ -1,13 +1,12 @@
 -- A response is short, and the token of a question that was read has its size.
-use Rattle.std.proofs.Common.{◌≡◌, ℕ, ◌+◌, ◌<◌, ◌≤◌, ◌^◌, List, [], ◌∷◌, ◌++◌, length, ap, ◌∙◌, append_assoc, append-nil, arith}
+use Rattle.std.proofs.Common.{◌≡◌, ℕ, ◌+◌, ◌<◌, ◌≤◌, ◌^◌, List, [], ◌++◌, length, ap, ◌∙◌, arith}
 use Rattle.std.specs.Prelude.{Some}
-use Rattle.std.specs.List.{flat_map}
+use Rattle.std.proofs.lemmas.List.{length-append}
 use Rattle.base_types.specs.declared.limits.TheConstants.{TOKEN_LEAST, TOKEN_LIMIT}
 use Rattle.cbor_heads.specs.Head.{head}
 use Rattle.cbor_core.specs.Spelling.{spelling}
 use Rattle.cbor_core.proofs.Public.Spell.{spelling_Unsigned, spelling_Bytes, spelling_Array, spelling_Map, pair_spelling_out}
 use Rattle.cbor_heads.proofs.Public.Sizes.{head_size}
-use Rattle.cbor_fields.proofs.Public.Lengths.{heads_and_text}
 use Rattle.teep_messages.specs.Messages.{MessageIs}
 use Rattle.teep_messages.specs.Options.{IsSized}
 use Rattle.teep_messages.proofs.Public.Messages.{messages_are_proper}
@@ -15,14 +14,16 @@ use Rattle.agent_core.specs.Answers.{response}
 use Rattle.agent_core.proofs.Proper.{response_item, item_is}
 
 item_bytes : (token : List ℕ) → spelling (response_item token)
-    ≡ flat_map (λ h. h) (head 4 2 ∷ head 0 2 ∷ head 5 2 ∷ head 0 6 ∷ head 0 0 ∷ head 0 20 ∷ head 2 (length token) ∷ []) ++ token
-item_bytes token = simp (spelling_Array, spelling_Map, spelling_Unsigned, spelling_Bytes, pair_spelling_out, append_assoc, append-nil)
+    ≡ head 4 2 ++ (head 0 2 ++ ((head 5 2 ++ ((head 0 6 ++ head 0 0) ++ ((head 0 20 ++ (head 2 (length token) ++ token)) ++ []))) ++ []))
+item_bytes token = simp (spelling_Array, spelling_Map, spelling_Unsigned, spelling_Bytes, pair_spelling_out)
+
+summed : (a b c d e f g t : List ℕ) → length a ≤ 9 → length b ≤ 9 → length c ≤ 9 → length d ≤ 9 → length e ≤ 9 → length f ≤ 9 → length g ≤ 9
+    → length (a ++ (b ++ ((c ++ ((d ++ e) ++ ((f ++ (g ++ t)) ++ []))) ++ []))) ≤ length t + 63
+summed a b c d e f g t ha hb hc hd he hf hg = simp length-append (omega arith)
 
 item_size : (token : List ℕ) → length token ≤ 64 → length (spelling (response_item token)) < 2 ^ 32
 item_size token short =
-    let heads = heads_and_text (head 4 2 ∷ head 0 2 ∷ head 5 2 ∷ head 0 6 ∷ head 0 0 ∷ head 0 20 ∷ head 2 (length token) ∷ []) token
-    (head_size 4 2, head_size 0 2, head_size 5 2, head_size 0 6, head_size 0 0, head_size 0 20, head_size 2 (length token), tt) in
-    let n : length (spelling (response_item token)) ≤ length token + 63 = rw (item_bytes token) (omega (arith, heads)) in
+    let n : length (spelling (response_item token)) ≤ length token + 63 = rw (item_bytes token) (summed _ _ _ _ _ _ _ token (head_size 4 2) (head_size 0 2) (head_size 5 2) (head_size 0 6) (head_size 0 0) (head_size 0 20) (head_size 2 (length token))) in
     omega arith
 
 -- bytes that are a response are short

@@ -1,7 +1,7 @@
 -- What is written for a configuration has room in the head of an image.
-use Rattle.std.proofs.Common.{◌≡◌, ℕ, ◌+◌, ◌*◌, ◌≤◌, List, [], ◌∷◌, ◌++◌, length, map, ◌∙◌, ap, append_assoc, append-nil, arith}
+use Rattle.std.proofs.Common.{◌≡◌, ℕ, ◌+◌, ◌*◌, ◌≤◌, List, [], ◌∷◌, ◌++◌, length, map, ◌∙◌, ap, arith}
 use Rattle.std.specs.Prelude.{None}
-use Rattle.std.specs.List.{AllZip, flat_map}
+use Rattle.std.specs.List.{AllZip}
 use Rattle.std.proofs.lemmas.List.{length-append}
 use Rattle.cbor_core.specs.declared.item.Item.{Item}
 use Rattle.cbor_core.specs.declared.item.Item.TheVariants as i
@@ -10,7 +10,6 @@ use Rattle.cbor_core.specs.Spelling.{spelling, spellings}
 use Rattle.cbor_core.proofs.Public.Spell.{spelling_Unsigned, spelling_Negative, spelling_Bytes, spelling_Map, pair_spelling_out}
 use Rattle.cbor_heads.proofs.Public.Sizes.{head_size}
 use Rattle.cbor_core.proofs.Public.Sizes.{number_size, string_size, array_size}
-use Rattle.cbor_fields.proofs.Public.Lengths.{heads_and_text}
 use Rattle.lms_core.proofs.Keys.{fields_at}
 use Rattle.lms_core.specs.Bytes.{u32_bytes}
 use Rattle.hss_verify.specs.Hss.{IsHssPublic}
@@ -27,8 +26,12 @@ use Rattle.component_store.specs.Config.{PartsAre, ConfigIs, IsConfig}
 use Rattle.component_store.specs.Written.{written_config}
 
 key_bytes : (public : List ℕ) → spelling (written_key (record { kid = None; public = public }))
-    ≡ flat_map (λ h. h) (head 5 3 ∷ head 0 1 ∷ head 0 5 ∷ head 0 3 ∷ head 1 45 ∷ head 1 0 ∷ head 2 (length public) ∷ []) ++ public
-key_bytes public = simp (spelling_Map, spelling_Unsigned, spelling_Negative, spelling_Bytes, pair_spelling_out, append_assoc, append-nil)
+    ≡ head 5 3 ++ ((head 0 1 ++ head 0 5) ++ ((head 0 3 ++ head 1 45) ++ ((head 1 0 ++ (head 2 (length public) ++ public)) ++ [])))
+key_bytes public = simp (spelling_Map, spelling_Unsigned, spelling_Negative, spelling_Bytes, pair_spelling_out)
+
+summed : (a b c d e f g t : List ℕ) → length a ≤ 9 → length b ≤ 9 → length c ≤ 9 → length d ≤ 9 → length e ≤ 9 → length f ≤ 9 → length g ≤ 9
+    → length (a ++ ((b ++ c) ++ ((d ++ e) ++ ((f ++ (g ++ t)) ++ [])))) ≤ length t + 63
+summed a b c d e f g t ha hb hc hd he hf hg = simp length-append (omega arith)
 
 hss_size : (public : List ℕ) → IsHssPublic public → length public ≡ 60
 hss_size public is =
@@ -38,9 +41,7 @@ hss_size public is =
 wrapped_size : (public : List ℕ) (x : Item) → Wraps public x → length (spelling (wrapped_key public)) ≤ 132
 wrapped_size public x w =
     let inner : length (spelling (written_key (record { kid = None; public = public }))) ≤ length public + 63 =
-    (let heads = heads_and_text (head 5 3 ∷ head 0 1 ∷ head 0 5 ∷ head 0 3 ∷ head 1 45 ∷ head 1 0 ∷ head 2 (length public) ∷ []) public
-    (head_size 5 3, head_size 0 1, head_size 0 5, head_size 0 3, head_size 1 45, head_size 1 0, head_size 2 (length public), tt) in
-    rw (key_bytes public) (omega (arith, heads))) in
+    rw (key_bytes public) (summed _ _ _ _ _ _ _ public (head_size 5 3) (head_size 0 1) (head_size 0 5) (head_size 0 3) (head_size 1 45) (head_size 1 0) (head_size 2 (length public))) in
     omega (arith, string_size (spelling (written_key (record { kid = None; public = public }))), hss_size public w.known)
 
 keys_size : (keys : List (List ℕ)) (xs : List Item) → AllZip Wraps keys xs → length (spellings (map wrapped_key keys)) ≤ 132 * length keys
