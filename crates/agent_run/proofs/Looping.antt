@@ -56,7 +56,8 @@ module _ (anchors : Anchors) where
   replies_push (e ∷ es) (r ∷ rs) event reply each last = (each.0, replies_push es rs event reply each.1 last)
 
   -- one reply more is sent
-  answered_push : {frames : List Frame} {before sent now : List ℕ} (frame reply : Frame) → Answered anchors frames before sent → Answers anchors (event_in frame) reply → now ≡ sent ++ frame_bytes reply → Answered anchors (frames ++ frame ∷ []) before now
+  answered_push : {frames : List Frame} {before sent now : List ℕ} (frame reply : Frame) → Answered anchors frames before sent → Answers anchors (event_in frame) reply
+      → now ≡ sent ++ frame_bytes reply → Answered anchors (frames ++ frame ∷ []) before now
   answered_push {frames} {before} frame reply answered answers is = record {
     replies = answered.replies ++ reply ∷ [];
     each = subst (λ (l : List Event). Replies anchors l (answered.replies ++ reply ∷ [])) (sym (map-append event_in frames (frame ∷ []))) (replies_push (map event_in frames) answered.replies (event_in frame) reply answered.each answers);
@@ -238,7 +239,8 @@ module _ (anchors : Anchors) where
   Leaves limit most old new ReadFault = RanOver anchors limit most statuses.ReadFault old new
   Leaves limit most old new NoMemory = RanOver anchors limit most statuses.NoMemory old new
 
-  pub left : {limit most count count2 : ℕ} {old mid new : Stream} → Looping limit count old mid → TookSome count count2 mid new → (next : Next) → Grows count count2 next → count2 ≤ most → Nexts limit most count2 mid.rest new.rest next → Leaves limit most old new next
+  pub left : {limit most count count2 : ℕ} {old mid new : Stream} → Looping limit count old mid → TookSome count count2 mid new → (next : Next) → Grows count count2 next → count2 ≤ most
+      → Nexts limit most count2 mid.rest new.rest next → Leaves limit most old new next
   left {limit} {most} {count} {count2} {old} {mid} {new} run took (Got kind body) grows within is = tt
   left {limit} {most} {count} {count2} {old} {mid} {new} run took Whole grows within is = ran limit most count old mid new run count2 took within statuses.Done (whole limit most count old mid new run count2 took within is.0 is.1 is.2)
   left {limit} {most} {count} {count2} {old} {mid} {new} run took Long grows within is = ran limit most count old mid new run count2 took within statuses.LongFrame (long limit most count old mid new run count2 took within is grows)

@@ -1,5 +1,6 @@
 -- The text of a proper item is read as that item.
-use Rattle.std.proofs.Common.{◌≡◌, ◌≢◌, ℕ, zero, suc, ◌+◌, ◌*◌, ◌/◌, ◌%◌, ◌^◌, ◌<◌, ◌≤◌, true, false, List, [], ◌∷◌, ◌++◌, length, Ok, Some, refl, ap, ◌∙◌, append_assoc, append-nil, arith, ◌⊎◌, inl, inr, codes, decimal, ne_eqb, eq-eqb, lt-ltb, le-ltb, length-append, drop_at}
+use Rattle.std.proofs.Common.{◌≡◌, ◌≢◌, ℕ, zero, suc, ◌+◌, ◌*◌, ◌/◌, ◌%◌, ◌^◌, ◌<◌, ◌≤◌, true, false, List, [], ◌∷◌, ◌++◌, length, Ok, Some, refl, ap, ◌∙◌, append_assoc, append-nil, arith, ◌⊎◌}
+use Rattle.std.proofs.Common.{inl, inr, codes, decimal, ne_eqb, eq-eqb, lt-ltb, le-ltb, length-append, drop_at}
 use Rattle.std.specs.List.{flat_map, AllByRecursion}
 use Rattle.std.specs.Char.{is_ascii_digit}
 use Rattle.std.specs.Str.Parse.{AllDigits, digits_value}

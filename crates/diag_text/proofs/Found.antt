@@ -1,5 +1,6 @@
 -- An item that is read has the text that stood there, and is proper and in range.
-use Rattle.std.proofs.Common.{◌≡◌, ℕ, zero, suc, ◌+◌, ◌-◌, ◌^◌, ◌<◌, ◌≤◌, Bool, true, false, cond, nat_lt, List, [], ◌∷◌, ◌++◌, length, Ok, Err, Option, Some, None, refl, sym, ap, subst, ◌∙◌, arith, inl, inr, codes, decimal, ltb-true, lt-ltb, le-ltb}
+use Rattle.std.proofs.Common.{◌≡◌, ℕ, zero, suc, ◌+◌, ◌-◌, ◌^◌, ◌<◌, ◌≤◌, Bool, true, false, cond, nat_lt, List, [], ◌∷◌, ◌++◌, length, Ok, Err, Option, Some, None, refl, sym, ap, subst, ◌∙◌}
+use Rattle.std.proofs.Common.{arith, inl, inr, codes, decimal, ltb-true, lt-ltb, le-ltb}
 use Rattle.std.specs.Prelude.{slice_index}
 use Rattle.std.specs.List.{flat_map, AllByRecursion}
 use Rattle.std.specs.Str.{is_utf8}
@@ -16,7 +17,8 @@ use Rattle.diag_text.proofs.Loops.{last_key_more, member_is}
 use Rattle.cbor_core.proofs.Public.Levels.{IsWholeBy, to_spellable}
 use Rattle.diag_text.specs.Printed.{hex_byte, escaped, listed, printed, pair_printed}
 use Rattle.cbor_heads.specs.Reading.{Reader, ◌>>=◌, nested}
-use Rattle.diag_text.specs.Reading.{past, hex_value, hex_guess, text_guess, bytes_at, text_at, parts_at, inside_at, member_at, key_at, pair_at, array_at, map_at, tag_at, number_at, number_or_tag, negative_by, negative_at, text_by, string_at, item_by, item_at}
+use Rattle.diag_text.specs.Reading.{past, hex_value, hex_guess, text_guess, bytes_at, text_at, parts_at, inside_at, member_at, key_at, pair_at, array_at, map_at, tag_at, number_at, number_or_tag}
+use Rattle.diag_text.specs.Reading.{negative_by, negative_at, text_by, string_at, item_by, item_at}
 use Rattle.diag_text.proofs.Texts.{printed_Unsigned, printed_Negative, printed_Bytes, printed_Text, printed_Array, printed_Map, printed_Tag, printed_Truth, printed_Null, pair_printed_out}
 use Rattle.diag_text.specs.Faulty.{Ends}
 use Rattle.diag_text.proofs.Fronts.{not_starts}
@@ -61,7 +63,8 @@ module _ (room : Bool) (P : Item → Type 0) where
   made : (p q : Place) (y : Item) (text : List ℕ) (x : Item × Place) → Took p text q → printed y ≡ text → Ends y q.rest → IsWholeBy room P (out-Item y) → done {E = ℕ} (y, q) ≡ Ok x → Whole room P p x
   made p q y text x t is ends whole e = subst (λ (z : Item × Place). Whole room P p z) (ok_is (y, q) x e) (record { took = rw is t; ends = ends; proper = whole })
 
-  pub word_takes : (p : Place) (token : List ℕ) (n : ℕ) (y : Item) (x : Item × Place) → begins token p.rest ≡ true → length token ≡ n → printed y ≡ token → Ends y (skip n p).rest → IsWholeBy room P (out-Item y) → done {E = ℕ} (y, skip n p) ≡ Ok x → Whole room P p x
+  pub word_takes : (p : Place) (token : List ℕ) (n : ℕ) (y : Item) (x : Item × Place) → begins token p.rest ≡ true → length token ≡ n → printed y ≡ token → Ends y (skip n p).rest
+      → IsWholeBy room P (out-Item y) → done {E = ℕ} (y, skip n p) ≡ Ok x → Whole room P p x
   word_takes p token n y x here len is ends whole e = made p (skip n p) y token x (subst (λ (k : ℕ). Took p token (skip k p)) len (token_took token p here)) is ends whole e
 
   pub bytes_takes : (p : Place) (at : ℕ) (x : Item × Place) → begins (codes "h'") p.rest ≡ true → length p.rest < 2 ^ 64 → (bytes_at at (skip 2 p) >>= λ y. Ok (i.Bytes y.0, y.1)) ≡ Ok x → Whole room P p x
@@ -271,7 +274,8 @@ inside_readers inner Q law = record {
 pub item_takes : (d : ℕ) → TakesBy (item_at d) (IsSpellable d)
 unfolding nested
 item_takes zero p x fits e = let w = level_takes None false (λ _. ⊥) leaf_readers p x fits e in record { took = w.took; ends = w.ends; proper = to_spellable zero x.0 w.proper }
-item_takes (suc d) p x fits e = let w = level_takes (Some (item_at d)) true (IsSpellable d) (inside_readers (item_at d) (IsSpellable d) (item_takes d)) p x fits e in record { took = w.took; ends = w.ends; proper = to_spellable (suc d) x.0 w.proper }
+item_takes (suc d) p x fits e =
+    let w = level_takes (Some (item_at d)) true (IsSpellable d) (inside_readers (item_at d) (IsSpellable d) (item_takes d)) p x fits e in record { took = w.took; ends = w.ends; proper = to_spellable (suc d) x.0 w.proper }
 
 -- ---- depth
 

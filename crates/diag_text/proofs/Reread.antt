@@ -1,5 +1,6 @@
 -- The text of each item is read as that item, whatever follows that does not go on with it.
-use Rattle.std.proofs.Common.{◌≡◌, ◌≢◌, ℕ, zero, suc, ◌+◌, ◌-◌, ◌^◌, ◌<◌, ◌≤◌, Bool, true, false, nat_lt, List, [], ◌∷◌, ◌++◌, length, Ok, Option, Some, None, refl, sym, ap, subst, ◌∙◌, append_assoc, append-nil, arith, codes, decimal, ne_eqb, lt-ltb, length-append}
+use Rattle.std.proofs.Common.{◌≡◌, ◌≢◌, ℕ, zero, suc, ◌+◌, ◌-◌, ◌^◌, ◌<◌, ◌≤◌, Bool, true, false, nat_lt, List, [], ◌∷◌, ◌++◌, length, Ok, Option, Some, None, refl, sym, ap, subst, ◌∙◌}
+use Rattle.std.proofs.Common.{append_assoc, append-nil, arith, codes, decimal, ne_eqb, lt-ltb, length-append}
 use Rattle.std.specs.List.{flat_map, AllByRecursion}
 use Rattle.std.specs.Str.{IsUtf8}
 use Rattle.std.specs.Str.Parse.{AllDigits}
@@ -23,7 +24,8 @@ use Rattle.diag_text.proofs.Texts.{printed_Unsigned, printed_Negative, printed_B
 use Rattle.diag_text.proofs.Loops.{member_is, last_key_more}
 use Rattle.diag_text.specs.Faulty.{NoDigit, EndsNumber, EndsBy, Ends}
 use Rattle.diag_text.proofs.Fronts.{begins_front, not_begins, stops_colon, stops_bracket, stops_ends}
-use Rattle.diag_text.proofs.Again.{place, skip_front, hex_guess_back, hex_not_close, pieces_again, number_again, digits_stop, digits_bracket, AgainBy, IsMark, square as square_mark, curly as curly_mark, Each, parts_again, flat_long, form_of, text_back_by, text_open_by, text_some_by}
+use Rattle.diag_text.proofs.Again.{place, skip_front, hex_guess_back, hex_not_close, pieces_again, number_again, digits_stop, digits_bracket, AgainBy, IsMark, square as square_mark}
+use Rattle.diag_text.proofs.Again.{curly as curly_mark, Each, parts_again, flat_long, form_of, text_back_by, text_open_by, text_some_by}
 
 -- the first byte of an item's text, which closes no container
 pub record Front (text : List ℕ) : Type 0 where
@@ -260,4 +262,5 @@ scalar_again inner x h = subst (LayerAgain (item_by inner) (out-Item x)) (roll-o
 pub item_again : (d : ℕ) (x : Item) → IsSpellable d x → AgainBy (item_at d) printed (Ends x) x
 unfolding nested
 item_again zero x h = scalar_again None x h
-item_again (suc d) x h = subst (LayerAgain (item_by (Some (item_at d))) (out-Item x)) (roll-out-Item x) (inside_layer (item_at d) (IsSpellable d) (record { again = item_again d; front = spellable_front d }) (out-Item x) (from_spellable (suc d) x h))
+item_again (suc d) x h =
+    subst (LayerAgain (item_by (Some (item_at d))) (out-Item x)) (roll-out-Item x) (inside_layer (item_at d) (IsSpellable d) (record { again = item_again d; front = spellable_front d }) (out-Item x) (from_spellable (suc d) x h))

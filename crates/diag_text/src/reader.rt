@@ -8,7 +8,8 @@ ghost use Rattle.cbor_core.specs.Spelling.{spelling, bytes_below};
 ghost use Rattle.diag_text.specs.declared.fault.TextFault.{TextFault};
 ghost use Rattle.diag_text.specs.Printed.{Prints};
 ghost use Rattle.cbor_heads.specs.Reading.{Follows, inside};
-ghost use Rattle.diag_text.specs.Reading.{Decides, whole_at, string_at, inside_at, parts_at, member_at, key_at, pair_at, array_at, map_at, tag_at, number_or_tag, negative_at, plain_at, item_at, alone, IsTextRead, IsTextRefused, place_in, item_by};
+ghost use Rattle.diag_text.specs.Reading.{Decides, whole_at, string_at, inside_at, parts_at, member_at, key_at, pair_at, array_at, map_at, tag_at, number_or_tag, negative_at, plain_at, item_at, alone};
+ghost use Rattle.diag_text.specs.Reading.{IsTextRead, IsTextRefused, place_in, item_by};
 ghost use Rattle.diag_text.specs.Faulty.{TextFaulty};
 
 use crate::fault::{DiagFault, TextFault};

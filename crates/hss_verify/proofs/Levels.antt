@@ -42,7 +42,8 @@ pub record IsCounted (public message signature : List ℕ) (levels : ℕ) : Type
   pub count : u32_at signature 0 ≡ levels - 1
   pub chain : IsChain LmsValid (slice_range public 4 60) (levels - 1) (slice_range signature 4 (length signature)) message
 
-pub valid_from : (public message signature : List ℕ) (levels : ℕ) → signature ≡ u32_bytes (u32_at signature 0) ++ slice_range signature 4 (length signature) → IsHssPublic public → levels ≡ u32_at public 0 → IsCounted public message signature levels → HssValid public message signature
+pub valid_from : (public message signature : List ℕ) (levels : ℕ) → signature ≡ u32_bytes (u32_at signature 0) ++ slice_range signature 4 (length signature) → IsHssPublic public
+    → levels ≡ u32_at public 0 → IsCounted public message signature levels → HssValid public message signature
 valid_from public message signature levels begun key known counted =
     let some = key.at_least_one in
     let chain = counted.chain in

@@ -27,7 +27,8 @@ pub record IsLinked (Signs : Signing) (key : List ℕ) (n : ℕ) (bytes message 
   pub valid : Signs key next signature
   pub more : IsChain Signs next (n - 1) rest message
 
-linked_by : (Signs : Signing) (form : NeedsForm Signs) (key : List ℕ) (n : ℕ) (bytes message : List ℕ) (links : List Link) (last : List ℕ) → 0 < n → length links ≡ n → bytes ≡ flat_map link_bytes links ++ last → IsSignedBy Signs key links last message → IsLinked Signs key n bytes message
+linked_by : (Signs : Signing) (form : NeedsForm Signs) (key : List ℕ) (n : ℕ) (bytes message : List ℕ) (links : List Link) (last : List ℕ) → 0 < n → length links ≡ n
+    → bytes ≡ flat_map link_bytes links ++ last → IsSignedBy Signs key links last message → IsLinked Signs key n bytes message
 linked_by Signs form key n bytes message [] last some count spelled signed = absurd (omega arith)
 linked_by Signs form key n bytes message (link ∷ links) last some count spelled signed = record {
   signature = link.signature;
@@ -89,13 +90,17 @@ linked_from Signs key n len bytes message link =
 -- ---- the code's steps
 
 -- what a reader of the first signature's length answers where there is a link
-pub length_read : (Signs : Signing) (form : NeedsForm Signs) (key : List ℕ) (n : ℕ) (bytes message : List ℕ) (answer : Option ℕ) → ((signature : List ℕ) → IsFormed key signature → length signature + 56 ≤ length bytes → answer ≡ Some (length signature)) → (link : IsLinked Signs key n bytes message) → answer ≡ Some (length link.signature)
+pub length_read : (Signs : Signing) (form : NeedsForm Signs) (key : List ℕ) (n : ℕ) (bytes message : List ℕ) (answer : Option ℕ)
+    → ((signature : List ℕ) → IsFormed key signature → length signature + 56 ≤ length bytes → answer ≡ Some (length signature)) → (link : IsLinked Signs key n bytes message)
+    → answer ≡ Some (length link.signature)
 length_read Signs form key n bytes message answer only link =
     let at = linked_at Signs key n (length link.signature) bytes message link refl in
     only link.signature (form key link.next link.signature link.valid) at.room
 
 -- a chain's first link, at the length that was read
-pub link_read : (Signs : Signing) (form : NeedsForm Signs) (key : List ℕ) (n len : ℕ) (bytes message : List ℕ) → ((signature : List ℕ) → IsFormed key signature → length signature + 56 ≤ length bytes → Some len ≡ Some (length signature)) → 0 < n → IsChain Signs key n bytes message → IsLinkedAt Signs key n len bytes message
+pub link_read : (Signs : Signing) (form : NeedsForm Signs) (key : List ℕ) (n len : ℕ) (bytes message : List ℕ)
+    → ((signature : List ℕ) → IsFormed key signature → length signature + 56 ≤ length bytes → Some len ≡ Some (length signature)) → 0 < n → IsChain Signs key n bytes message
+    → IsLinkedAt Signs key n len bytes message
 link_read Signs form key n len bytes message only some chain =
     let link = linked Signs form key n bytes message some chain in
     let same = length_read Signs form key n bytes message (Some len) only link in

@@ -23,7 +23,8 @@ pub prefix_length : (identifier : List ℕ) (q i : ℕ) → length identifier �
 prefix_length identifier q i size = simp length-append (omega (arith, size))
 
 -- five parts, each written behind the one before it
-pub five_parts : (x1 x2 x3 x4 x5 a b c b' c' d : List ℕ) (j : ℕ) → length x5 ≡ 55 → b ≡ b' → c ≡ c' → take 16 x1 ≡ a → take 20 x2 ≡ take 16 x1 ++ b → take 22 x3 ≡ take 20 x2 ++ c → take 23 x4 ≡ take 22 x3 ++ j ∷ [] → take 55 x5 ≡ take 23 x4 ++ d → x5 ≡ a ++ b' ++ c' ++ j ∷ d
+pub five_parts : (x1 x2 x3 x4 x5 a b c b' c' d : List ℕ) (j : ℕ) → length x5 ≡ 55 → b ≡ b' → c ≡ c' → take 16 x1 ≡ a → take 20 x2 ≡ take 16 x1 ++ b → take 22 x3 ≡ take 20 x2 ++ c
+    → take 23 x4 ≡ take 22 x3 ++ j ∷ [] → take 55 x5 ≡ take 23 x4 ++ d → x5 ≡ a ++ b' ++ c' ++ j ∷ d
 five_parts x1 x2 x3 x4 x5 a b c b' c' d j size eb ec e1 e2 e3 e4 e5 =
     let front : take 55 x5 ≡ (a ++ b' ++ c' ++ j ∷ []) ++ d = cc in
     whole_front x5 (a ++ b' ++ c' ++ j ∷ d) size (front ∙ append_assoc (a ++ b' ++ c') (j ∷ []) d)

@@ -107,7 +107,8 @@ parts_at key a b c d e f bytes is =
     }
 
 -- the parts of a signature, each as bytes
-spelled_parts : (key : PublicKey) (parts : Signature) → Fits parts key → IsSpelled key (u32_bytes parts.leaf) (u32_bytes parts.ots_type) parts.randomizer (concat parts.chains) (u32_bytes parts.lms_type) (concat parts.path) (signature_bytes parts)
+spelled_parts : (key : PublicKey) (parts : Signature) → Fits parts key
+    → IsSpelled key (u32_bytes parts.leaf) (u32_bytes parts.ots_type) parts.randomizer (concat parts.chains) (u32_bytes parts.lms_type) (concat parts.path) (signature_bytes parts)
 spelled_parts key parts fits = record {
   a_size = refl;
   b_size = refl;

@@ -41,7 +41,8 @@ pub record Advanced (identifier : List ℕ) (q j : ℕ) (digits old new : List �
   pub left : (k : ℕ) → n ≤ k → slot new k ≡ slot old k
 
 -- one chain more is stepped
-pub advanced_step : (identifier : List ℕ) (q j : ℕ) (digits old new value : List ℕ) (n : ℕ) → 32 * n + 32 ≤ length new → length value ≡ 32 → slice_index digits n ≤ j → value ≡ chain_step identifier q n j (slot new n) → Advanced identifier q j digits old new n → Advanced identifier q j digits old (put new n value) (n + 1)
+pub advanced_step : (identifier : List ℕ) (q j : ℕ) (digits old new value : List ℕ) (n : ℕ) → 32 * n + 32 ≤ length new → length value ≡ 32 → slice_index digits n ≤ j
+    → value ≡ chain_step identifier q n j (slot new n) → Advanced identifier q j digits old new n → Advanced identifier q j digits old (put new n value) (n + 1)
 advanced_step identifier q j digits old new value n room size reached is so_far =
     let changed = put new n value in
     let Stepped : ℕ → Type 0 = λ k. slice_index digits k ≤ j → slot changed k ≡ chain_step identifier q k j (slot old k) in
@@ -69,7 +70,8 @@ advanced_wait identifier q j digits old new n waits so_far =
 
 -- ---- all chains, one step more at a time
 
-next_by : (identifier : List ℕ) (q i j a : ℕ) (start old new : List ℕ) → (a ≤ j → new ≡ chain_step identifier q i j old) → (j < a → new ≡ old) → old ≡ chain identifier q i a (j - a) start → (j < a) ⊎ (a ≤ j) → new ≡ chain identifier q i a (j + 1 - a) start
+next_by : (identifier : List ℕ) (q i j a : ℕ) (start old new : List ℕ) → (a ≤ j → new ≡ chain_step identifier q i j old) → (j < a → new ≡ old) → old ≡ chain identifier q i a (j - a) start
+    → (j < a) ⊎ (a ≤ j) → new ≡ chain identifier q i a (j + 1 - a) start
 next_by identifier q i j a start old new stepped waiting so_far (inl waits) =
     let steps : j - a ≡ j + 1 - a = omega arith in
     waiting waits ∙ so_far ∙ ap (λ (n : ℕ). chain identifier q i a n start) steps
@@ -77,5 +79,6 @@ next_by identifier q i j a start old new stepped waiting so_far (inr reached) =
     stepped reached ∙ ap (chain_step identifier q i j) so_far ∙ sym (chain_more identifier q i a j start reached)
 
 -- step j turns the chain after the steps before it into the chain after it, also where its digit is not reached
-pub chain_next : (identifier : List ℕ) (q i j a : ℕ) (start old new : List ℕ) → (a ≤ j → new ≡ chain_step identifier q i j old) → (j < a → new ≡ old) → old ≡ chain identifier q i a (j - a) start → new ≡ chain identifier q i a (j + 1 - a) start
+pub chain_next : (identifier : List ℕ) (q i j a : ℕ) (start old new : List ℕ) → (a ≤ j → new ≡ chain_step identifier q i j old) → (j < a → new ≡ old) → old ≡ chain identifier q i a (j - a) start
+    → new ≡ chain identifier q i a (j + 1 - a) start
 chain_next identifier q i j a start old new stepped waiting so_far = next_by identifier q i j a start old new stepped waiting so_far (cases_lt j a)

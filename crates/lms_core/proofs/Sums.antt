@@ -21,7 +21,8 @@ pub bound_more : (s n m d : ℕ) → s ≤ n * m → s + (m - d) ≤ (n + 1) * m
 bound_more s n m d h = omega (arith, h)
 
 -- the whole sum, shifted, is the checksum
-pub checksum_is : (digest : List ℕ) (params : OtsParams) (n s : ℕ) → IsOtsRow params → n ≡ 256 / params.w → s ≡ shortfall digest params.w (2 ^ params.w - 1) n → s ≤ n * (2 ^ params.w - 1) → s * 2 ^ params.ls % 65536 ≡ checksum digest params.w params.ls
+pub checksum_is : (digest : List ℕ) (params : OtsParams) (n s : ℕ) → IsOtsRow params → n ≡ 256 / params.w → s ≡ shortfall digest params.w (2 ^ params.w - 1) n → s ≤ n * (2 ^ params.w - 1)
+    → s * 2 ^ params.ls % 65536 ≡ checksum digest params.w params.ls
 unfolding checksum
 checksum_is digest params n s row count total bound =
     let fits = sum_fits params s row (rw count at bound) in

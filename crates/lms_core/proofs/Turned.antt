@@ -5,7 +5,8 @@ use Rattle.lms_core.specs.Bytes.{u32_bytes}
 use Rattle.lms_core.proofs.Inputs.{whole_front}
 
 -- the chain's number and the value written, with the digit between them left
-pub turned : (old mid new bytes number value : List ℕ) → length old ≡ 55 → length mid ≡ 55 → length new ≡ 55 → bytes ≡ number → take 22 mid ≡ take 20 old ++ bytes → drop 22 mid ≡ drop 22 old → take 55 new ≡ take 23 mid ++ value → new ≡ take 20 old ++ number ++ get_or old 22 0 ∷ value
+pub turned : (old mid new bytes number value : List ℕ) → length old ≡ 55 → length mid ≡ 55 → length new ≡ 55 → bytes ≡ number → take 22 mid ≡ take 20 old ++ bytes → drop 22 mid ≡ drop 22 old
+    → take 55 new ≡ take 23 mid ++ value → new ≡ take 20 old ++ number ++ get_or old 22 0 ∷ value
 turned old mid new bytes number value old_size mid_size new_size same front back written =
     let room : 22 < length mid = omega (arith, mid_size) in
     let digit : get_or mid 22 0 ≡ get_or old 22 0 = sym (get_or-drop 22 mid 0 0) ∙ ap (λ (x : List ℕ). get_or x 0 0) back ∙ get_or-drop 22 old 0 0 in

@@ -13,7 +13,9 @@ use Rattle.hss_verify.specs.Hss.{HssValid, IsChain, IsHssPublic, IsSignedBy, Lin
 use Rattle.hss_verify.proofs.Levels.{begins_counted, counted, levels_at, top_at, valid_from}
 use Rattle.hss_verify.proofs.Links.{IsLinkedAt, chained, linked, linked_at, linked_from}
 
-public_by : (bytes : List ℕ) → (u32_at bytes 0 < 1) ⊎ (1 ≤ u32_at bytes 0) → (8 < u32_at bytes 0) ⊎ (u32_at bytes 0 ≤ 8) → IsPublicKey (slice_range bytes 4 60) ⊎ (¬ (IsPublicKey (slice_range bytes 4 60))) → (bytes ≡ u32_bytes (u32_at bytes 0) ++ slice_range bytes 4 60) ⊎ (¬ (bytes ≡ u32_bytes (u32_at bytes 0) ++ slice_range bytes 4 60)) → IsHssPublic bytes ⊎ (¬ (IsHssPublic bytes))
+public_by : (bytes : List ℕ) → (u32_at bytes 0 < 1) ⊎ (1 ≤ u32_at bytes 0) → (8 < u32_at bytes 0) ⊎ (u32_at bytes 0 ≤ 8)
+    → IsPublicKey (slice_range bytes 4 60) ⊎ (¬ (IsPublicKey (slice_range bytes 4 60)))
+    → (bytes ≡ u32_bytes (u32_at bytes 0) ++ slice_range bytes 4 60) ⊎ (¬ (bytes ≡ u32_bytes (u32_at bytes 0) ++ slice_range bytes 4 60)) → IsHssPublic bytes ⊎ (¬ (IsHssPublic bytes))
 public_by bytes (inr some) (inr few) (inl known) (inl spelled) = inl (record {
   levels = u32_at bytes 0;
   top = slice_range bytes 4 60;

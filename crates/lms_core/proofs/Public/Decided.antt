@@ -39,7 +39,8 @@ fields_spell bytes h params key spells =
     spells.spelled ∙ sym (rw (at.lms_type, at.ots_type, at.identifier, at.root) refl)
 
 -- bytes of known types are a key exactly where they are what the fields at their places spell
-spelled_or_not : (bytes : List ℕ) (h : ℕ) (params : OtsParams) → lms_table (u32_at bytes 0) ≡ Some h → ots_table (u32_at bytes 4) ≡ Some params → (length bytes ≡ 56) ⊎ (¬ (length bytes ≡ 56)) → (bytes ≡ public_key_bytes (candidate bytes h params)) ⊎ (¬ (bytes ≡ public_key_bytes (candidate bytes h params))) → IsPublicKey bytes ⊎ (¬ (IsPublicKey bytes))
+spelled_or_not : (bytes : List ℕ) (h : ℕ) (params : OtsParams) → lms_table (u32_at bytes 0) ≡ Some h → ots_table (u32_at bytes 4) ≡ Some params → (length bytes ≡ 56) ⊎ (¬ (length bytes ≡ 56))
+    → (bytes ≡ public_key_bytes (candidate bytes h params)) ⊎ (¬ (bytes ≡ public_key_bytes (candidate bytes h params))) → IsPublicKey bytes ⊎ (¬ (IsPublicKey bytes))
 unfolding candidate
 spelled_or_not bytes h params lms ots (inl size) (inl spelled) = inl (
   candidate bytes h params,
@@ -81,7 +82,10 @@ form_tested key bytes =
     (Decides-and _ _ (Decides-eqb (u32_at bytes 4) key.ots_type) (Decides-eqb (u32_at bytes (chains_end key)) key.lms_type))) in
     Decides-like _ (λ h. record { size = h.0; leaf = h.1.0; ots_type = h.1.1.0; lms_type = h.1.1.1 }) (λ form. (form.size, (form.leaf, (form.ots_type, form.lms_type)))) tests
 
-valid_by : (public message signature : List ℕ) (key : PublicKey) → Spells public key → HasForm key signature ⊎ (¬ (HasForm key signature)) → (signature ≡ signature_bytes (signature_at key signature)) ⊎ (¬ (signature ≡ signature_bytes (signature_at key signature))) → (root_candidate key message (signature_at key signature) ≡ key.root) ⊎ (¬ (root_candidate key message (signature_at key signature) ≡ key.root)) → LmsValid public message signature ⊎ (¬ (LmsValid public message signature))
+valid_by : (public message signature : List ℕ) (key : PublicKey) → Spells public key → HasForm key signature ⊎ (¬ (HasForm key signature))
+    → (signature ≡ signature_bytes (signature_at key signature)) ⊎ (¬ (signature ≡ signature_bytes (signature_at key signature)))
+    → (root_candidate key message (signature_at key signature) ≡ key.root) ⊎ (¬ (root_candidate key message (signature_at key signature) ≡ key.root))
+    → LmsValid public message signature ⊎ (¬ (LmsValid public message signature))
 valid_by public message signature key spells (inl form) (inl spelled) (inl root) = inl (record {
   key = key;
   public_key = spells;

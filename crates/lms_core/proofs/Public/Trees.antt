@@ -5,7 +5,8 @@ use Rattle.lms_core.specs.Tree.{inner_hash, parent_hash, path_above, root_above,
 even_or_odd : (n : ℕ) → (n % 2 ≡ 1) ⊎ (n % 2 ≡ 0)
 even_or_odd n = grind arith
 
-parent_by : (identifier : List ℕ) (leaf : ℕ → List ℕ) (level node : ℕ) → (node % 2 ≡ 1) ⊎ (node % 2 ≡ 0) → parent_hash identifier node (tree_node identifier leaf level node) (tree_node identifier leaf level (sibling node)) ≡ tree_node identifier leaf (suc level) (node / 2)
+parent_by : (identifier : List ℕ) (leaf : ℕ → List ℕ) (level node : ℕ) → (node % 2 ≡ 1) ⊎ (node % 2 ≡ 0)
+    → parent_hash identifier node (tree_node identifier leaf level node) (tree_node identifier leaf level (sibling node)) ≡ tree_node identifier leaf (suc level) (node / 2)
 unfolding tree_node
 parent_by identifier leaf level node (inl odd) =
     let left : node - 1 ≡ 2 * (node / 2) = omega (arith, odd) in
@@ -17,7 +18,8 @@ parent_by identifier leaf level node (inr even) =
     rw even (λ i. inner_hash identifier (node / 2) (tree_node identifier leaf level (left i)) (tree_node identifier leaf level (right i)))
 
 -- a node and its sibling hash to their parent
-pub parent_of_siblings : (identifier : List ℕ) (leaf : ℕ → List ℕ) (level node : ℕ) → parent_hash identifier node (tree_node identifier leaf level node) (tree_node identifier leaf level (sibling node)) ≡ tree_node identifier leaf (suc level) (node / 2)
+pub parent_of_siblings : (identifier : List ℕ) (leaf : ℕ → List ℕ) (level node : ℕ)
+    → parent_hash identifier node (tree_node identifier leaf level node) (tree_node identifier leaf level (sibling node)) ≡ tree_node identifier leaf (suc level) (node / 2)
 parent_of_siblings identifier leaf level node = parent_by identifier leaf level node (even_or_odd node)
 
 half_low : (up node : ℕ) → 2 ^ suc up ≤ node → 2 ^ up ≤ node / 2
@@ -27,7 +29,8 @@ half_high : (up node : ℕ) → node < 2 ^ suc (suc up) → node / 2 < 2 ^ suc u
 half_high up node h = omega (arith, h)
 
 -- a node leads to node 1 by its path
-pub path_leads_to_root : (identifier : List ℕ) (leaf : ℕ → List ℕ) (level node up : ℕ) → 2 ^ up ≤ node → node < 2 ^ suc up → root_above identifier node (tree_node identifier leaf level node) (path_above identifier leaf level node up) ≡ tree_node identifier leaf (level + up) 1
+pub path_leads_to_root : (identifier : List ℕ) (leaf : ℕ → List ℕ) (level node up : ℕ) → 2 ^ up ≤ node → node < 2 ^ suc up
+    → root_above identifier node (tree_node identifier leaf level node) (path_above identifier leaf level node up) ≡ tree_node identifier leaf (level + up) 1
 unfolding path_above
 path_leads_to_root identifier leaf level node zero low high =
     let same : level + 0 ≡ level = omega arith in

@@ -11,7 +11,8 @@ pub push_item-returns-in_ok-negative-in-Negative : goal.push_item-returns-in_ok-
 push_item-returns-in_ok-negative-in-Negative t c = leaf_Negative c.args.depth c.args.item.now c.in-Negative.n _ _ c.in-Negative.is c.negative.ensures.range c.in_ok-negative-in-Negative.ensures.written
 
 pub push_item-returns-in_ok-bytes-in-Bytes : goal.push_item-returns-in_ok-bytes-in-Bytes
-push_item-returns-in_ok-bytes-in-Bytes t c = leaf_Bytes c.args.depth c.args.item.now c.in-Bytes.bytes c.as_slice.result.now _ _ c.in-Bytes.is c.as_slice.ensures c.bytes.ensures.range c.bytes.ensures.len c.in_ok-bytes-in-Bytes.ensures.written
+push_item-returns-in_ok-bytes-in-Bytes t c =
+    leaf_Bytes c.args.depth c.args.item.now c.in-Bytes.bytes c.as_slice.result.now _ _ c.in-Bytes.is c.as_slice.ensures c.bytes.ensures.range c.bytes.ensures.len c.in_ok-bytes-in-Bytes.ensures.written
 
 pub push_item-returns-in_ok-text-in-Text : goal.push_item-returns-in_ok-text-in-Text
 push_item-returns-in_ok-text-in-Text t c = leaf_Text c.args.depth c.args.item.now c.in-Text.text c.as_str.result.now _ _ c.in-Text.is c.as_str.ensures.value c.text.ensures.range c.text.ensures.len c.in_ok-text-in-Text.ensures.written

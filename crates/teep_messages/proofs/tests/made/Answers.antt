@@ -45,7 +45,8 @@ options_proper manifests msg token eight = record {
   other = (rw i.outs-Unsigned refl, tt);
 }
 
-message_proper : (v : Options) (manifests : List (List ℕ)) (manifest msg token : List ℕ) (other : List Pair) → v ≡ no_options → manifests ≡ manifest ∷ [] → other ≡ unknown → length token ≡ 8 → IsProperMessage (Update (filled v manifests msg token other))
+message_proper : (v : Options) (manifests : List (List ℕ)) (manifest msg token : List ℕ) (other : List Pair) → v ≡ no_options → manifests ≡ manifest ∷ [] → other ≡ unknown → length token ≡ 8
+    → IsProperMessage (Update (filled v manifests msg token other))
 message_proper v manifests manifest msg token other none one kept eight =
     let item : IsProper (i.Array (i.Unsigned 3 ∷ i.Map (option_pairs (filled no_options (manifest ∷ []) msg token unknown)) ∷ [])) =
     subst (λ (ps : List Pair). IsProper (i.Array (i.Unsigned 3 ∷ i.Map ps ∷ []))) (sym (option_pairs_are (manifest ∷ []) msg token)) (item_proper manifest msg token) in
