@@ -1,1 +1,4 @@
 pub mod Params
+pub mod Secrets
+pub mod Trees
+pub mod Sign
