@@ -1,3 +1,4 @@
 pub mod Joined
 pub mod Grown
 pub mod Valid
+pub mod Keys
