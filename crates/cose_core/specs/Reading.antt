@@ -19,9 +19,12 @@ payload_by _ = None
 abbrev pub payload_of : Item → Option (Option (List ℕ))
 payload_of x = payload_by (out-Item x)
 
+-- the value of four members, each of its form
 abbrev pub four_by : Item → Item → Item → Item → Option Sign1
 four_by protected unprotected payload signature =
-    option_and_then (λ s. option_and_then (λ c. option_and_then (λ u. option_map (λ p. record { protected = p; unprotected = u; payload = c; signature = s }) (bytes_of protected)) (map_of unprotected)) (payload_of payload)) (bytes_of signature)
+    option_and_then (λ s. option_and_then (λ c. option_and_then (λ u.
+    option_map (λ p. record { protected = p; unprotected = u; payload = c; signature = s })
+    (bytes_of protected)) (map_of unprotected)) (payload_of payload)) (bytes_of signature)
 
 -- the four members
 abbrev pub members_by : List Item → Option Sign1
