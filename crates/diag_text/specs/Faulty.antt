@@ -17,6 +17,7 @@ use Rattle.diag_text.specs.Printed.{printed, pair_printed}
 abbrev pub Starts : List ℕ → List ℕ → Type 0
 Starts token text = (more : List ℕ) × (text ≡ token ++ more)
 
+-- no digit stands in front
 abbrev pub NoDigit : List ℕ → Type 0
 NoDigit [] = Unit {0}
 NoDigit (c ∷ cs) = is_ascii_digit c ≡ false
@@ -25,6 +26,7 @@ NoDigit (c ∷ cs) = is_ascii_digit c ≡ false
 abbrev pub EndsNumber : List ℕ → Type 0
 EndsNumber more = NoDigit more × (Starts (codes "(") more → ⊥)
 
+-- what follows an item's text does not go on with it, by the item's layer
 abbrev pub EndsBy : Item-F Item Pair → List ℕ → Type 0
 EndsBy (Item-F.Unsigned n) more = EndsNumber more
 EndsBy (Item-F.Negative n) more = NoDigit more

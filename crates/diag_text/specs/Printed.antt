@@ -31,6 +31,7 @@ abbrev pub listed : {X : Type 0} → (X → List ℕ) → List X → List ℕ
 listed text [] = []
 listed text (x ∷ xs) = text x ++ flat_map (λ y. codes ", " ++ text y) xs
 
+-- the word of false or true
 abbrev pub word : Bool → List ℕ
 word b = if b then codes "true" else codes "false"
 
@@ -46,6 +47,7 @@ item_step (Item-F.Tag n content) = decimal n ++ (codes "(" ++ (content ++ codes 
 item_step (Item-F.Truth b) = word b
 item_step Item-F.Null = codes "null"
 
+-- a pair's text is its key's, a colon and a space, and its value's
 abbrev pub pair_step : Pair-F (List ℕ) (List ℕ) → List ℕ
 pair_step p = p.key ++ (codes ": " ++ p.value)
 
@@ -53,6 +55,7 @@ pair_step p = p.key ++ (codes ": " ++ p.value)
 unfoldable pub printed : Item → List ℕ
 printed = fold-Item (List ℕ) (List ℕ) item_step pair_step
 
+-- the text of a pair
 unfoldable pub pair_printed : Pair → List ℕ
 pair_printed = fold-Pair (List ℕ) (List ℕ) item_step pair_step
 

@@ -48,6 +48,7 @@ if_decimal ds (Some n) = if same (decimal n) ds then Some n else None
 unfoldable pub numeral_value : ℕ → List ℕ → Option ℕ
 numeral_value limit ds = if_decimal ds (value_below limit ds)
 
+-- what some digits are read as
 abbrev pub number_by : ℕ → List ℕ → Place → Option ℕ → Outcome ℕ ℕ
 number_by at ds p None = Err at
 number_by at ds p (Some n) = Ok (n, skip (length ds) p)
@@ -83,9 +84,11 @@ pieces_at spell guess close at (suc n) found p =
     then pieces_at spell guess close at n (found ++ guess p.rest ∷ []) (skip (length (spell (guess p.rest))) p)
     else Err at)
 
+-- the bytes of a byte string, up to its closing mark
 abbrev pub bytes_at : ℕ → Reader ℕ (List ℕ)
 bytes_at at p = pieces_at hex_byte hex_guess (codes "'") at (length p.rest) [] p
 
+-- the bytes of a text, up to its closing mark
 abbrev pub text_at : ℕ → Reader ℕ (List ℕ)
 text_at at p = pieces_at escaped text_guess (codes "\"") at (length p.rest) [] p
 
@@ -110,20 +113,24 @@ member_at inner found p = inner p
 abbrev pub key_at : Reader ℕ Item → List ℕ → Reader ℕ Item
 key_at inner last p = inner p >>= λ key. if bytes_below last (spelling key.0) then Ok key else Err p.at
 
+-- a key above those found, a colon and a space, and its value
 abbrev pub pair_at : Reader ℕ Item → List Pair → Reader ℕ Pair
 pair_at inner found p = key_at inner (last_key [] found) p >>= λ key.
     past (codes ": ") key.1 (λ q. inner q >>= λ value. Ok (record { key = key.0; value = value.0 }, value.1))
 
 -- ---- items; a container holds what the inner reader reads, and where there is none, no container may stand
 
+-- the members of an array, behind its mark
 abbrev pub array_at : Option (Reader ℕ Item) → ℕ → Reader ℕ Item
 array_at None at p = Err at
 array_at (Some inner) at p = inside_at (member_at inner) (codes "]") p >>= λ x. Ok (i.Array x.0, x.1)
 
+-- the pairs of a map, behind its mark
 abbrev pub map_at : Option (Reader ℕ Item) → ℕ → Reader ℕ Item
 map_at None at p = Err at
 map_at (Some inner) at p = inside_at (pair_at inner) (codes "}") p >>= λ x. Ok (i.Map x.0, x.1)
 
+-- the content of the tag n and the bracket behind it
 abbrev pub tag_at : Option (Reader ℕ Item) → ℕ → ℕ → Reader ℕ Item
 tag_at None at n p = Err at
 tag_at (Some inner) at n p = inner p >>= λ x. past (codes ")") x.1 (λ q. Ok (i.Tag n x.0, q))
@@ -133,21 +140,27 @@ abbrev pub number_or_tag : Option (Reader ℕ Item) → ℕ → ℕ × Place →
 number_or_tag inner at x =
     if begins (codes "(") x.1.rest then tag_at inner at x.0 (skip 1 x.1) else Ok (i.Unsigned x.0, x.1)
 
+-- the negative number -n, where n is above 0
 abbrev pub negative_by : ℕ → ℕ × Place → Outcome ℕ Item
 negative_by at x = if nat_lt 0 x.0 then Ok (i.Negative (x.0 - 1), x.1) else Err at
 
+-- the bytes are a text
 abbrev pub text_by : ℕ → List ℕ × Place → Outcome ℕ Item
 text_by at x = if is_utf8 x.0 then Ok (i.Text x.0, x.1) else Err at
 
+-- a text, up to its closing mark
 abbrev pub string_at : ℕ → Reader ℕ Item
 string_at at p = text_at at p >>= text_by at
 
+-- an unsigned number, or a tag
 abbrev pub plain_at : Option (Reader ℕ Item) → Reader ℕ Item
 plain_at inner p = number_at p.at (2 ^ 64) p >>= number_or_tag inner p.at
 
+-- a negative number, behind its mark
 abbrev pub negative_at : ℕ → Reader ℕ Item
 negative_at at p = number_at at (2 ^ 64 + 1) p >>= negative_by at
 
+-- an item whose parts the inner reader reads
 abbrev pub item_by : Option (Reader ℕ Item) → Reader ℕ Item
 item_by inner p =
     if begins (codes "true") p.rest then Ok (i.Truth true, skip 4 p)
@@ -168,10 +181,12 @@ item_at depth = nested item_by depth
 abbrev pub alone : Item × Place → Result Item ℕ
 alone x = if nat_lt 0 (length x.1.rest) then Err x.1.at else Ok x.0
 
+-- an item and nothing behind it, or the place of the fault
 abbrev pub alone_by : Outcome ℕ Item → Result Item ℕ
 alone_by (Ok x) = alone x
 alone_by (Err at) = Err at
 
+-- what all of a text says
 abbrev pub whole_at : List ℕ → Result Item ℕ
 whole_at text = alone_by (item_at 16 (start text))
 
