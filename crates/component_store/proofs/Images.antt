@@ -9,7 +9,7 @@ use Rattle.component_store.specs.Config.{ConfigIs}
 use Rattle.component_store.specs.Image.{IsHead, IsImage, IsNewImage, head_bytes, journal_region}
 use Rattle.journal_core.specs.Region.{region_size, RegionStands}
 use Rattle.journal_core.specs.declared.region.Region.{Region}
-use Rattle.journal_core.proofs.Elsewhere.{zeros_law}
+use Rattle.journal_core.proofs.Public.Elsewhere.{zeros_law}
 use Rattle.std.proofs.Math.Seq.{drop-append_seam}
 use Rattle.component_store.proofs.Readers.{one_config}
 

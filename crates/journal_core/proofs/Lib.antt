@@ -7,4 +7,4 @@ mod Halves
 mod Changes
 mod OneList
 mod Placed
-mod Elsewhere
+pub mod Public

@@ -1,4 +1,4 @@
-use Rattle.journal_core.proofs.Elsewhere.{stands_law, fits_law}
+use Rattle.journal_core.proofs.Public.Elsewhere.{stands_law, fits_law}
 use Rattle.journal_core.proofs.laws.kept_elsewhere.Goals as goal
 
 pub returns-clause-stands : goal.returns-clause-stands
