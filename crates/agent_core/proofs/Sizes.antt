@@ -7,10 +7,13 @@ use Rattle.cbor_heads.specs.Head.{head}
 use Rattle.cbor_core.specs.Spelling.{spelling}
 use Rattle.cbor_core.proofs.Public.Spell.{spelling_Unsigned, spelling_Bytes, spelling_Array, spelling_Map, pair_spelling_out}
 use Rattle.cbor_heads.proofs.Public.Sizes.{head_size}
+use Rattle.teep_messages.specs.declared.message.Message.{Message}
+use Rattle.teep_messages.specs.declared.message.Message.TheVariants as kinds
+use Rattle.teep_messages.specs.Proper.{HasProperFields}
 use Rattle.teep_messages.specs.Messages.{MessageIs}
 use Rattle.teep_messages.specs.Options.{IsSized}
 use Rattle.teep_messages.proofs.Public.Messages.{messages_are_proper}
-use Rattle.agent_core.specs.Answers.{response}
+use Rattle.agent_core.specs.Answers.{response, HasSizedToken}
 use Rattle.agent_core.proofs.Proper.{response_item, item_is}
 
 item_bytes : (token : List ℕ) → spelling (response_item token)
@@ -32,3 +35,15 @@ response_size token body sized is =
     let all = messages_are_proper (response token) body is in
     let same : body ≡ spelling (response_item token) = all.2 ∙ ap spelling (item_is token) in
     rw same (item_size token sized.1)
+
+-- the token of a question whose fields keep their rules has its size
+token_sized : (message : Message) → HasProperFields message → HasSizedToken message
+token_sized (kinds.QueryRequest options suites profiles items) fields = fields.0.token_size
+token_sized (kinds.QueryResponse options) fields = tt
+token_sized (kinds.Update options) fields = tt
+token_sized (kinds.Success options) fields = tt
+token_sized (kinds.Error options code) fields = tt
+
+-- and so has that of a question which some bytes are
+pub read_token : (message : Message) (bytes : List ℕ) → MessageIs message bytes → HasSizedToken message
+read_token message bytes is = token_sized message (messages_are_proper message bytes is).0.fields

@@ -101,4 +101,5 @@ seen (Error options code) proper =
     part_seen (number 105) code _ _ tt refl))
 
 pub message_part : Part NoMemory message_of written HasProperFields
+unfolding message_of
 message_part = array_part NoMemory (Shape 100) members_in members HasProperFields (shape 100) makes seen

@@ -61,8 +61,8 @@ members_in [] = Err (Shape 100)
 members_in (k ∷ parts) = part (shaped (Shape 100) unsigned_of) k (λ kind. parts_in kind parts)
 
 -- the message of an item, which is an array
-abbrev pub message_of : Item → Result Message MessageFault
-message_of = in_array (Shape 100) members_in
+unfoldable pub message_of : Item → Result Message MessageFault
+message_of x = in_array (Shape 100) members_in x
 
 -- the bytes spell an item that is the message
 abbrev pub MessageIs : Message → List ℕ → Type 0

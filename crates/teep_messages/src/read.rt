@@ -54,6 +54,7 @@ fn read_bytes(alloc: Global, bytes: &[u8]) -> Result<Message, MessageFault>
 }
 
 /// The message that an item is.
+#[tactic(auto, unfolding(crate::specs::Messages::message_of))]
 fn read_item(alloc: Global, item: &Item) -> Result<Message, MessageFault>
     ensures { Answers MessageFault.NoMemory (message_of item.now) result }
 {

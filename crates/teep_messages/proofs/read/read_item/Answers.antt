@@ -13,6 +13,7 @@ use Rattle.teep_messages.proofs.read.read_item.Goals as goal
 -- the message of an array is that of its first member and the others
 by_members : (x : Item) (members : List Item) (other kind : Item) (n : ℕ) (r : Result Message MessageFault) → array_of x ≡ Some members → 1 ≤ length members → kind ≡ get_or members 0 other → unsigned_of kind ≡ Some n
     → Answers NoMemory (parts_in n (take (length members - 1) (drop 1 members))) r → Answers NoMemory (message_of x) r
+unfolding message_of
 by_members x [] other kind n r at some first number is = absurd (omega arith)
 by_members x (k ∷ parts) other kind n r at some first number is =
     let same : unsigned_of k ≡ Some n = subst (λ (y : Item). unsigned_of y ≡ Some n) first number in
