@@ -91,10 +91,27 @@ fn answer_payload(alloc: Global, payload: &[u8]) -> Result<Reply, AgentFault>
     ensures { IfOk result (λ reply. AnswersPayload payload.now (frame_of reply)) }
 {
     match Message::read(alloc, payload) {
-        Ok(message) => Ok(answer(alloc, &message)?),
-        Err(MessageFault::NoMemory) => Err(AgentFault::NoMemory),
-        Err(_) => Ok(refuse(alloc, Refusal::NotMessage)?),
+        Ok(message) => Ok(answer_read(alloc, message)?),
+        Err(fault) => refuse_message(alloc, &fault),
     }
+}
+
+// The reply to a payload that is no message, for this reason, unless it is want of memory.
+fn refuse_message(alloc: Global, fault: &MessageFault) -> Result<Reply, AgentFault>
+    ensures { IfOk result (λ reply. (fault.now ≡ MessageFault.NoMemory → ⊥) × (frame_of reply ≡ refusal_frame Refusal.NotMessage)) }
+{
+    if *fault == MessageFault::NoMemory {
+        return Err(AgentFault::NoMemory);
+    }
+    Ok(refuse(alloc, Refusal::NotMessage)?)
+}
+
+// The reply to a message that was read, which goes with it.
+fn answer_read(alloc: Global, message: Message) -> OrMemory<Reply>
+    requires { HasSizedToken message }
+    ensures { IfOk result (λ reply. AnswersMessage message (frame_of reply)) }
+{
+    answer(alloc, &message)
 }
 
 // The reply to a message, whose token has its size.

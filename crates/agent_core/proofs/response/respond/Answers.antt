@@ -23,4 +23,4 @@ carries message body (Ok reply) is framed = (body, is, framed)
 carries message body (Err e) is framed = tt
 
 pub returns : goal.returns
-returns c = carries _ c.in_ok-body.body c.new.result (subst (λ (m : Message). MessageIs m c.in_ok-body.body) c.in_ok-message.ensures c.in_ok-body.ensures.is) c.new.ensures
+returns c = carries _ c.in_ok-body.body c.new.result (subst (λ (m : Message). MessageIs m c.in_ok-body.body) c.in_ok-message.ensures c.in_ok-body.ensures.is) c.new.ensures.reply
