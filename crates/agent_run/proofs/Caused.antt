@@ -21,19 +21,19 @@ pub steady_none : (board : View) → Steady board board
 steady_none board = record { read = refl; send = refl; disk = refl; extent = refl }
 
 never : {failed : Type 0} (before now : ℕ) → (failed → ⊥) → now ≡ before → CausedBy failed before now
-never before now no same = record { later = omega (arith, same); fault = λ f. absurd (no f); steady = λ _. same }
+never before now unblamed same = record { later = omega (arith, same); fault = λ f. absurd (unblamed f); steady = λ _. same }
 
 rising : {failed was : Type 0} {before now between : ℕ} → between ≡ before → CausedBy was between now → (failed → was) → (was → failed) → CausedBy failed before now
 rising {failed} {was} {before} {now} {between} same cause there back = subst (λ (n : ℕ). CausedBy failed n now) same (record {
   later = cause.later;
   fault = λ f. cause.fault (there f);
-  steady = λ no. cause.steady (λ w. no (back w));
+  steady = λ unblamed. cause.steady (λ w. unblamed (back w));
 })
 
 -- a look that met no fault
 pub looked : {told failed : Type 0} {old mid new : View} → Steady old mid → ReadAlone told mid new → CausedBy failed mid.faults.read new.faults.read → (failed → ⊥) → Steady old new
-looked steady alone cause no = record {
-  read = cause.steady no ∙ steady.read;
+looked steady alone cause worked = record {
+  read = cause.steady worked ∙ steady.read;
   send = alone.send ∙ steady.send;
   disk = alone.disk ∙ steady.disk;
   extent = alone.extent ∙ steady.extent;
@@ -41,9 +41,9 @@ looked steady alone cause no = record {
 
 -- a turn that met no fault
 pub turned : {turn : Turn} {old mid new : View} → Steady old mid → TurnCause turn mid new → turn ≢ turns.SendFault → Steady old new
-turned steady cause no = record {
+turned steady cause worked = record {
   read = cause.read ∙ steady.read;
-  send = cause.send.steady no ∙ steady.send;
+  send = cause.send.steady worked ∙ steady.send;
   disk = cause.disk ∙ steady.disk;
   extent = cause.extent ∙ steady.extent;
 }
@@ -77,10 +77,10 @@ send_failed {old} {mid} {new} steady cause = record {
 
 -- the image was loaded before the run, without a fault
 pub loaded : {failed : Type 0} {old mid new : View} {status : Status} → DiskCausedBy failed old mid → (failed → ⊥) → RunCause status mid new → RunCause status old new
-loaded {failed} {old} {mid} {new} {status} load no run = record {
+loaded {failed} {old} {mid} {new} {status} load worked run = record {
   read = subst (λ (n : ℕ). CausedBy (status ≡ statuses.ReadFault) n new.faults.read) load.read run.read;
   send = subst (λ (n : ℕ). CausedBy (status ≡ statuses.SendFault) n new.faults.send) load.send run.send;
-  disk = subst (λ (n : ℕ). CausedBy (status ≡ statuses.DiskFault) n new.faults.disk) (load.cause.steady no) run.disk;
+  disk = subst (λ (n : ℕ). CausedBy (status ≡ statuses.DiskFault) n new.faults.disk) (load.cause.steady worked) run.disk;
   extent = run.extent ∙ load.extent;
 }
 
@@ -93,10 +93,6 @@ unloaded {failed} {old} {new} status read send load there back = record {
   disk = rising refl load.cause there back;
   extent = load.extent;
 }
-
--- nothing ran at all
-pub untouched : (board : View) → RunCause statuses.Usage board board
-untouched board = blameless statuses.Usage (λ is. cc) (λ is. cc) (λ is. cc) (steady_none board)
 
 -- a status that blames something is not that of a run where nothing failed
 pub blames_nothing : {old new : View} {status : Status} → RunCause status old new → NothingFailed old new → (status ≢ statuses.ReadFault) × (status ≢ statuses.SendFault) × (status ≢ statuses.DiskFault)

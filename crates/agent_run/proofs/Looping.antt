@@ -255,17 +255,17 @@ module _ (anchors : Anchors) where
   After limit most count old last turns.SendFault = RanOver anchors limit most statuses.SendFault old last
   After limit most count old last turns.NoMemory = RanOver anchors limit most statuses.NoMemory old last
 
-  pub after : (most : ℕ) {limit count count2 : ℕ} {old mid new last : Stream} {frame : Frame} → Looping limit count old mid → TookSome count count2 mid new → count2 ≤ most → Came limit frame mid.rest new.rest
+  pub after : (most : ℕ) {limit count count2 : ℕ} {old mid new : Stream} (last : Stream) {frame : Frame} → Looping limit count old mid → TookSome count count2 mid new → count2 ≤ most → Came limit frame mid.rest new.rest
       → (turn : Turn) → Turns anchors (event_in frame) new last turn → After limit most count2 old last turn
-  after most {limit} {count} {count2} {old} {mid} {new} {last} {frame} run took within came turns.Sent is =
+  after most {limit} {count} {count2} {old} {mid} {new} last {frame} run took within came turns.Sent is =
       goes_on limit most count old mid new run count2 took within frame came last (ap (λ (s : Stream). s.rest) is.2) (ap (λ (s : Stream). s.taken) is.2) is.0 is.1 (ap (λ (s : Stream). s.sent) is.2)
-  after most {limit} {count} {count2} {old} {mid} {new} {last} {frame} run took within came turns.SendFault is =
+  after most {limit} {count} {count2} {old} {mid} {new} last {frame} run took within came turns.SendFault is =
       send_fault limit most count old mid new run count2 took within frame came last (ap (λ (s : Stream). s.rest) is.sent) (ap (λ (s : Stream). s.taken) is.sent) is (ap (λ (s : Stream). s.sent) is.sent)
-  after most {limit} {count} {count2} {old} {mid} {new} {last} {frame} run took within came turns.NoMemory is =
+  after most {limit} {count} {count2} {old} {mid} {new} last {frame} run took within came turns.NoMemory is =
       no_memory limit most count old mid new run count2 took within frame came last (ap (λ (s : Stream). s.rest) is) (ap (λ (s : Stream). s.taken) is) (ap (λ (s : Stream). s.sent) is)
 
 -- the same of an agent that is as at the start
-pub after_by : (most : ℕ) (agent now : Config) → now ≡ agent → {limit count count2 : ℕ} {old mid new last : Stream} {frame : Frame} → Looping agent.anchors limit count old mid → TookSome count count2 mid new → count2 ≤ most
+pub after_by : (most : ℕ) (agent now : Config) → now ≡ agent → {limit count count2 : ℕ} {old mid new : Stream} (last : Stream) {frame : Frame} → Looping agent.anchors limit count old mid → TookSome count count2 mid new → count2 ≤ most
     → Came limit frame mid.rest new.rest → (turn : Turn) → Turns now.anchors (event_in frame) new last turn → After agent.anchors limit most count2 old last turn
-after_by most agent now same {limit} {count} {count2} {old} {mid} {new} {last} {frame} run took within came turn is =
-    after agent.anchors most run took within came turn (subst (λ (c : Config). Turns c.anchors (event_in frame) new last turn) same is)
+after_by most agent now same {limit} {count} {count2} {old} {mid} {new} last {frame} run took within came turn is =
+    after agent.anchors most last run took within came turn (subst (λ (c : Config). Turns c.anchors (event_in frame) new last turn) same is)
