@@ -44,7 +44,10 @@ fn number_in(bytes: &[u8]) -> (u32, &[u8])
     ensures { bytes.now ≡ to_be_bytes w32 result.0 ++ result.1.now }
 {
     let (number, rest) = bytes.split_at(4);
-    (u32_from_be_bytes(number[0], number[1], number[2], number[3]), rest)
+    (
+        u32_from_be_bytes(number[0], number[1], number[2], number[3]),
+        rest,
+    )
 }
 
 /// The configuration in the head of an image: a part of the head's bytes. None where they are no head.

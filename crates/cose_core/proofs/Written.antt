@@ -39,9 +39,13 @@ pub signed_spelled : (protected payload text nothing w0 w1 w2 w3 w4 w5 : List �
     → Spells (signed_item protected payload) w5
 signed_spelled protected payload text nothing w0 w1 w2 w3 w4 w5 e0 e1 is_text utf8 text_len e2 are len e3 is_nothing none none_len e4 payload_are payload_len e5 = record {
   proper = signed_proper protected payload;
-  ranges = array_ranges 15 (i.Text (codes "Signature1") ∷ i.Bytes protected ∷ i.Bytes [] ∷ i.Bytes payload ∷ [])
-      (subst (λ (t : List ℕ). HasRangesWithin 15 (i.Text t)) is_text (text_ranges 15 text utf8 text_len), (string_ranges 15 protected are len,
-      (subst (λ (t : List ℕ). HasRangesWithin 15 (i.Bytes t)) is_nothing (string_ranges 15 nothing none none_len), (string_ranges 15 payload payload_are payload_len, tt)))) (omega arith);
+  ranges = array_ranges 15 (i.Text (codes "Signature1") ∷ i.Bytes protected ∷ i.Bytes [] ∷ i.Bytes payload ∷ []) (
+    subst (λ (t : List ℕ). HasRangesWithin 15 (i.Text t)) is_text (text_ranges 15 text utf8 text_len),
+    (
+      string_ranges 15 protected are len,
+      (subst (λ (t : List ℕ). HasRangesWithin 15 (i.Bytes t)) is_nothing (string_ranges 15 nothing none none_len), (string_ranges 15 payload payload_are payload_len, tt)),
+    ),
+  ) (omega arith);
   spelled = rw (e5, e4, e3, e2, e1, e0, is_text, is_nothing) (simp (spelling_Array, spelling_Text, spelling_Bytes, append_assoc, append-nil));
 }
 
@@ -57,8 +61,11 @@ pub sign1_spelled : (v : Sign1) (headers w0 w1 w2 w3 w4 w5 w6 : List ℕ) → Is
     → Spells (tagged v) w6
 sign1_spelled v headers w0 w1 w2 w3 w4 w5 w6 proper h e0 e1 e2 are len e3 e4 payload e5 signature_are signature_len e6 = record {
   proper = proper;
-  ranges = rw i.outs-Tag (array_ranges 14 (i.Bytes v.protected ∷ i.Map v.unprotected ∷ payload_item v.payload ∷ i.Bytes v.signature ∷ [])
-      (string_ranges 14 v.protected are len, (two_fewer (i.Map v.unprotected) h.ranges, (payload, (string_ranges 14 v.signature signature_are signature_len, tt)))) (omega arith), omega arith);
+  ranges = rw i.outs-Tag (
+    array_ranges 14 (i.Bytes v.protected ∷ i.Map v.unprotected ∷ payload_item v.payload ∷ i.Bytes v.signature ∷ [])
+        (string_ranges 14 v.protected are len, (two_fewer (i.Map v.unprotected) h.ranges, (payload, (string_ranges 14 v.signature signature_are signature_len, tt)))) (omega arith),
+    omega arith,
+  );
   spelled = rw (e6, e5, e4, e3, e2, e1, e0, h.spelled) (simp (spelling_Tag, spelling_Array, spelling_Bytes, append_assoc, append-nil));
 }
 

@@ -17,9 +17,9 @@ mod words;
 pub use file_host::FileHost;
 pub use host::{Host, HostFault};
 pub use memory_host::{MemoryHost, Named};
+use outside_core::{WordsFault, command_words};
 pub use run::run_tool;
 pub use status::Status;
-use outside_core::{WordsFault, command_words};
 use std::process::ExitCode;
 
 fn main(rt: HostRuntime) -> ExitCode {
