@@ -1,11 +1,13 @@
 ghost use Rattle.cbor_core.specs.Spelling.{IsProper};
 
 use crate::append::appends;
+use crate::keys::{ONE_LEVEL, TWO_LEVELS, grows, signs};
 use cbor_core::{Item, decode_whole, encode, is_proper};
 use hss_verify::{HssPublic, hss_verify};
 use lms_core::chain;
 use sha2::{Digest, Sha256};
 use std::alloc::{AllocError, Global};
+use std::thread::Threads;
 
 /// What is done in each round.
 #[derive(Clone, Copy, Debug)]
@@ -13,9 +15,15 @@ pub enum Work {
     Decode,
     Encode,
     Verify,
+    Cases,
     Hash,
     Chain,
     Append,
+    Grow,
+    GrowByFour,
+    SignOne,
+    SignTwo,
+    SignBelow,
 }
 
 impl Work {
@@ -25,23 +33,36 @@ impl Work {
             "decode" => Some(Work::Decode),
             "encode" => Some(Work::Encode),
             "verify" => Some(Work::Verify),
+            "cases" => Some(Work::Cases),
             "hash" => Some(Work::Hash),
             "chain" => Some(Work::Chain),
             "append" => Some(Work::Append),
+            "grow" => Some(Work::Grow),
+            "grow_by_four" => Some(Work::GrowByFour),
+            "sign_one" => Some(Work::SignOne),
+            "sign_two" => Some(Work::SignTwo),
+            "sign_below" => Some(Work::SignBelow),
             _ => None,
         }
     }
 
     /// In how many of the rounds the work had a good answer.
-    pub fn done(self, alloc: Global, bytes: &[u8], rounds: u64) -> u64 {
+    pub fn done<R: Threads + AllocGlobal + Sync>(self, rt: &R, bytes: &[u8], rounds: u64) -> u64 {
+        let alloc = rt.alloc();
         keep_memory(alloc);
         match self {
             Work::Decode => decodes(alloc, bytes, rounds),
             Work::Encode => encodes(alloc, bytes, rounds),
             Work::Verify => verifies(bytes, rounds),
+            Work::Cases => verifies_cases(bytes, rounds),
             Work::Hash => hashes(bytes, rounds),
             Work::Chain => chains(rounds),
             Work::Append => appends(alloc, rounds),
+            Work::Grow => grows(rt, 1, rounds),
+            Work::GrowByFour => grows(rt, 4, rounds),
+            Work::SignOne => signs(rt, ONE_LEVEL, 1, rounds),
+            Work::SignTwo => signs(rt, TWO_LEVELS, 1, rounds),
+            Work::SignBelow => signs(rt, TWO_LEVELS, 1024, rounds),
         }
     }
 }
@@ -98,19 +119,41 @@ fn verifies(bytes: &[u8], rounds: u64) -> u64 {
     good
 }
 
+// Verifies one case after another, each behind its length.
+fn verifies_cases(bytes: &[u8], rounds: u64) -> u64 {
+    let mut good: u64 = 0;
+    let mut rest = bytes;
+    for _ in 0..rounds {
+        let Some((case, after)) = split_by_length(rest) else {
+            return good;
+        };
+        good = good.saturating_add(verifies(case, 1));
+        rest = after;
+    }
+    good
+}
+
 // A public key, a message behind its length, and a signature.
 fn signed(bytes: &[u8]) -> Option<(HssPublic, &[u8], &[u8])> {
-    if bytes.len() < 64 {
+    if bytes.len() < 60 {
         return None;
     }
     let (key, rest) = bytes.split_at(60);
-    let (length, rest) = rest.split_at(4);
+    let (message, signature) = split_by_length(rest)?;
+    Some((HssPublic::read(key)?, message, signature))
+}
+
+// The bytes whose length stands before them as four bytes, and what follows.
+fn split_by_length(bytes: &[u8]) -> Option<(&[u8], &[u8])> {
+    if bytes.len() < 4 {
+        return None;
+    }
+    let (length, rest) = bytes.split_at(4);
     let length = u32::from_be_bytes([length[0], length[1], length[2], length[3]]) as usize;
     if rest.len() < length {
         return None;
     }
-    let (message, signature) = rest.split_at(length);
-    Some((HssPublic::read(key)?, message, signature))
+    Some(rest.split_at(length))
 }
 
 fn hashes(bytes: &[u8], rounds: u64) -> u64 {
