@@ -1,3 +1,4 @@
 pub mod OneReply
 pub mod Proper
 pub mod Sizes
+pub mod There

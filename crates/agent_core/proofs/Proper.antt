@@ -14,7 +14,7 @@ use Rattle.teep_messages.specs.Written.{option_pairs, written}
 use Rattle.agent_core.specs.Answers.{response}
 
 -- {6: 0, 20: token}
-abbrev response_pairs : List ℕ → List Pair
+abbrev pub response_pairs : List ℕ → List Pair
 response_pairs token = labelled 6 (i.Unsigned 0) ∷ labelled 20 (i.Bytes token) ∷ []
 
 -- [2, {6: 0, 20: token}]

@@ -1,12 +1,12 @@
 -- A response is short, and the token of a question that was read has its size.
-use Rattle.std.proofs.Common.{◌≡◌, ℕ, ◌+◌, ◌<◌, ◌≤◌, ◌^◌, List, [], ◌++◌, length, ap, ◌∙◌, arith}
+use Rattle.std.proofs.Common.{◌≡◌, ℕ, ◌+◌, ◌<◌, ◌≤◌, ◌^◌, List, [], ◌∷◌, length, ap, ◌∙◌, arith}
 use Rattle.std.specs.Prelude.{Some}
-use Rattle.std.proofs.lemmas.List.{length-append}
 use Rattle.base_types.specs.declared.limits.TheConstants.{TOKEN_LEAST, TOKEN_LIMIT}
-use Rattle.cbor_heads.specs.Head.{head}
-use Rattle.cbor_core.specs.Spelling.{spelling}
-use Rattle.cbor_core.proofs.Public.Spell.{spelling_Unsigned, spelling_Bytes, spelling_Array, spelling_Map, pair_spelling_out}
-use Rattle.cbor_heads.proofs.Public.Sizes.{head_size}
+use Rattle.cbor_core.specs.declared.item.Pair.{Pair}
+use Rattle.cbor_core.specs.declared.item.Item.TheVariants as i
+use Rattle.cbor_core.specs.Spelling.{spelling, pair_spellings}
+use Rattle.cbor_core.proofs.Public.Sizes.{number_size, string_size, array_size, map_size, more_members, more_pairs}
+use Rattle.cbor_fields.specs.Written.{labelled}
 use Rattle.teep_messages.specs.declared.message.Message.{Message}
 use Rattle.teep_messages.specs.declared.message.Message.TheVariants as kinds
 use Rattle.teep_messages.specs.Proper.{HasProperFields}
@@ -16,25 +16,36 @@ use Rattle.teep_messages.proofs.Public.Messages.{messages_are_proper}
 use Rattle.agent_core.specs.Answers.{response, HasSizedToken}
 use Rattle.agent_core.proofs.Proper.{response_item, item_is}
 
-item_bytes : (token : List ℕ) → spelling (response_item token)
-    ≡ head 4 2 ++ (head 0 2 ++ ((head 5 2 ++ ((head 0 6 ++ head 0 0) ++ ((head 0 20 ++ (head 2 (length token) ++ token)) ++ []))) ++ []))
-item_bytes token = simp (spelling_Array, spelling_Map, spelling_Unsigned, spelling_Bytes, pair_spelling_out)
-
-summed : (a b c d e f g t : List ℕ) → length a ≤ 9 → length b ≤ 9 → length c ≤ 9 → length d ≤ 9 → length e ≤ 9 → length f ≤ 9 → length g ≤ 9
-    → length (a ++ (b ++ ((c ++ ((d ++ e) ++ ((f ++ (g ++ t)) ++ []))) ++ []))) ≤ length t + 63
-summed a b c d e f g t ha hb hc hd he hf hg = simp length-append (omega arith)
-
 item_size : (token : List ℕ) → length token ≤ 64 → length (spelling (response_item token)) < 2 ^ 32
 item_size token short =
-    let n : length (spelling (response_item token)) ≤ length token + 63 = rw (item_bytes token) (summed _ _ _ _ _ _ _ token (head_size 4 2) (head_size 0 2) (head_size 5 2) (head_size 0 6) (head_size 0 0) (head_size 0 20) (head_size 2 (length token))) in
-    omega arith
+    let selected : Pair = labelled 6 (i.Unsigned 0) in
+    let echoed : Pair = labelled 20 (i.Bytes token) in
+    let pairs : length (pair_spellings (selected ∷ echoed ∷ [])) ≤ length token + 36 =
+    omega (
+      arith,
+      more_pairs (i.Unsigned 6) (i.Unsigned 0) (echoed ∷ []),
+      more_pairs (i.Unsigned 20) (i.Bytes token) [],
+      number_size 6,
+      number_size 0,
+      number_size 20,
+      string_size token,
+    ) in
+    omega (
+      arith,
+      array_size (i.Unsigned 2 ∷ i.Map (selected ∷ echoed ∷ []) ∷ []),
+      more_members (i.Unsigned 2) (i.Map (selected ∷ echoed ∷ []) ∷ []),
+      more_members (i.Map (selected ∷ echoed ∷ [])) [],
+      number_size 2,
+      map_size (selected ∷ echoed ∷ []),
+      pairs,
+    )
 
 -- bytes that are a response are short
 pub response_size : (token body : List ℕ) → IsSized TOKEN_LEAST TOKEN_LIMIT (Some token) → MessageIs (response token) body → length body < 2 ^ 32
 response_size token body sized is =
     let all = messages_are_proper (response token) body is in
     let same : body ≡ spelling (response_item token) = all.2 ∙ ap spelling (item_is token) in
-    rw same (item_size token sized.1)
+    rw same (item_size token sized.2)
 
 -- the token of a question whose fields keep their rules has its size
 token_sized : (message : Message) → HasProperFields message → HasSizedToken message

@@ -1,5 +1,7 @@
 -- The reply to an event.
 use Rattle.std.specs.Prelude.{◌≡◌, ◌⊎◌, List, [], ◌∷◌, ℕ, Option, Some, None}
+use Rattle.std.specs.List.{AllByRecursion}
+use Rattle.base_types.specs.Bytes.{IsBytes}
 use Rattle.base_types.specs.declared.limits.TheConstants.{TOKEN_LEAST, TOKEN_LIMIT}
 use Rattle.teep_messages.specs.declared.message.Message.TheVariants as kinds
 use Rattle.teep_messages.specs.declared.message.Message.{Message as TeepMessage}
@@ -117,7 +119,14 @@ Replies anchors [] (reply ∷ replies) = ⊥
 Replies anchors (event ∷ events) [] = ⊥
 Replies anchors (event ∷ events) (reply ∷ replies) = Answers anchors event reply × Replies anchors events replies
 
--- an event has one reply at most, and so have the events of a list
+-- the bytes of a message are bytes, as those of every running program are
+abbrev pub HasBytes : Event → Type 0
+HasBytes (Message bytes) = IsBytes bytes
+HasBytes _ = Unit {0}
+
+-- an event has exactly one reply, and so have the events of a list
 pub record OneReply : Type 0 where
+  pub there : (anchors : Anchors) (event : Event) → HasBytes event → (reply : Frame) × Answers anchors event reply
   pub one : (anchors : Anchors) (event : Event) (reply other : Frame) → Answers anchors event reply → Answers anchors event other → reply ≡ other
+  pub all_there : (anchors : Anchors) (events : List Event) → AllByRecursion HasBytes events → (replies : List Frame) × Replies anchors events replies
   pub each : (anchors : Anchors) (events : List Event) (replies others : List Frame) → Replies anchors events replies → Replies anchors events others → replies ≡ others

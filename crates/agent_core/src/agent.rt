@@ -142,7 +142,7 @@ fn refuse(alloc: Global, refusal: Refusal) -> OrMemory<Reply>
     Reply::new(alloc, REFUSAL, body)
 }
 
-/// An event has one reply: no two are answers to it.
+/// An event has exactly one reply: there is an answer to it, and no two.
 pub fn one_reply()
     ensures { OneReply }
 {}

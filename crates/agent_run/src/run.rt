@@ -31,7 +31,7 @@ use std::thread::Threads;
 /// - `DiskFault` exactly where the count of failed disk calls rose in this call, while the image was
 ///   loaded. Nothing is taken or sent.
 /// - `Done`, `CutFrame`, `LongFrame`, `InputSpent` exactly by the end of the input where nothing
-///   failed: it ended between two frames, inside a frame, a frame says a length above 2^21 bytes, or
+///   failed: it ended between two frames, inside a frame, a frame says a length above 2^24 bytes, or
 ///   2^40 bytes were taken and another is needed. Every frame before that end is answered.
 /// - `ReadFault` exactly where the count of failed reads rose in this call. Every frame taken is answered.
 /// - `SendFault` exactly where the count of failed sends rose in this call. Every frame taken but the

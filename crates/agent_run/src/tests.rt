@@ -62,7 +62,7 @@ fn inputs_have_their_output_and_status(rt: HostRuntime) -> Result<(), Fail> {
         (question, &RESPONSE, 0),
         (&[], &[], 0),
         (question.get(..12).unwrap_or(&[]), &[], 7),
-        (&[1, 0x00, 0x20, 0x00, 0x01], &[], 8),
+        (&[1, 0x01, 0x00, 0x00, 0x01], &[], 8),
         (&[3, 0, 0, 0, 0, 9], &[0x82, 0, 0, 0, 1, 1], 7),
         (two.as_slice(), replies.as_slice(), 0),
     ];
@@ -79,15 +79,19 @@ fn inputs_have_their_output_and_status(rt: HostRuntime) -> Result<(), Fail> {
 #[test]
 fn a_body_of_the_limit_is_read(rt: HostRuntime) -> Result<(), Fail> {
     let alloc = rt.alloc();
-    let mut input = Octets::from_slice(alloc, &[1, 0x00, 0x20, 0x00, 0x00])?;
-    input.extend(&vec![in alloc; 0u8; FRAME_IN_LIMIT]?)?;
-    for piece in [1, 4096] {
-        let (status, sent) = run(&rt, &["run"], image(alloc)?, piece, &[], input.as_slice())?;
-        assert_eq!(rt; status, Status::Done, "piece {piece}");
+    let table: [([u8; 5], usize); 2] = [
+        ([1, 0x00, 0x20, 0x00, 0x01], 2_097_153),
+        ([1, 0x01, 0x00, 0x00, 0x00], FRAME_IN_LIMIT),
+    ];
+    for (head, length) in table {
+        let mut input = Octets::from_slice(alloc, &head)?;
+        input.extend(&vec![in alloc; 0u8; length]?)?;
+        let (status, sent) = run(&rt, &["run"], image(alloc)?, 4096, &[], input.as_slice())?;
+        assert_eq!(rt; status, Status::Done, "{length} bytes");
         assert_eq!(rt;
             sent.as_slice(),
             [0x82, 0, 0, 0, 1, 2].as_slice(),
-            "piece {piece}"
+            "{length} bytes"
         );
     }
     Ok(())

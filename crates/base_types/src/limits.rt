@@ -4,7 +4,7 @@
 pub const CBOR_DEPTH_LIMIT: u8 = 16;
 
 /// The longest body of a frame into the agent, in bytes.
-pub const FRAME_IN_LIMIT: usize = 1 << 21;
+pub const FRAME_IN_LIMIT: usize = 1 << 24;
 
 /// The longest body of a frame out of the agent, in bytes.
 pub const FRAME_OUT_LIMIT: usize = 1 << 24;

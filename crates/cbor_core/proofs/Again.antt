@@ -20,13 +20,11 @@ use Rattle.cbor_heads.specs.Reading.{Reader, nested}
 use Rattle.cbor_core.specs.Reading.{part, items_at, pairs_at, content, item_by, item_at}
 use Rattle.cbor_core.proofs.Public.Spell.{spelling_Unsigned, spelling_Negative, spelling_Bytes, spelling_Text, spelling_Array, spelling_Map, spelling_Tag, spelling_Truth, spelling_Null, pair_spelling_out}
 use Rattle.cbor_heads.proofs.Public.Heads.{IsHead, head_again, head_short}
+use Rattle.cbor_heads.proofs.Public.Places.{behind-append}
 use Rattle.cbor_core.proofs.Public.Levels.{IsWholeBy, from_spellable}
 
 abbrev pub ReadsAgain : Reader Fault Item → Item → Type 0
 ReadsAgain inner x = (before : ℕ) (more : List ℕ) → inner (record { at = before; rest = spelling x ++ more }) ≡ Ok (x, behind before (spelling x) more)
-
-pub behind-append : (before : ℕ) (a b more : List ℕ) → behind (before + length a) b more ≡ behind before (a ++ b) more
-behind-append before a b more = let e : before + length a + length b ≡ before + length (a ++ b) = omega (arith, length-append a b) in ap (λ (n : ℕ). record { at = n; rest = more }) e
 
 -- a head, and then what it announces
 step : (inner : Option (Reader Fault Item)) (major n before : ℕ) (text more : List ℕ) (x : Item) → IsHead major n → spelling x ≡ head major n ++ text

@@ -28,7 +28,7 @@ use Rattle.cbor_heads.proofs.Public.Outcomes.{chosen, passed, ok_is, done, faile
 use Rattle.cbor_heads.proofs.Public.Heads.{Took}
 use Rattle.cbor_core.proofs.Items.{TakesBy, between_is, item_takes}
 use Rattle.cbor_heads.proofs.Public.Kinds.{kind_takes}
-use Rattle.cbor_core.proofs.Again.{behind-append}
+use Rattle.cbor_heads.proofs.Public.Places.{behind-append, behind_here, behind_then}
 
 -- ---- the place of a head's fault
 
@@ -65,19 +65,13 @@ head_fault p f e = subst (IsFaultAt p.at) e (by_fault p.at p.rest)
 abbrev pub RefusesBy : Reader Fault Item → (Place → Fault → Type 0) → Type 0
 RefusesBy inner F = (p : Place) (f : Fault) → IsBytes p.rest → inner p ≡ Err f → F p f
 
-place_then : (p : Place) (a : List ℕ) (q : Place) (b more : List ℕ) → q.at ≡ p.at + length a → behind q.at b more ≡ behind p.at (a ++ b) more
-place_then p a q b more at = rw at (behind-append p.at a b more)
-
-here_is : (p : Place) → p ≡ behind p.at [] p.rest
-here_is p = let e : p.at ≡ p.at + 0 = omega arith in ap (λ (n : ℕ). record { at = n; rest = p.rest }) e
-
 module _ (inner : Reader Fault Item) (P : Item → Type 0) (F : Place → Fault → Type 0) (takes : TakesBy inner P) (refuses : RefusesBy inner F) where
   pub items_fault : (n : ℕ) (found : List Item) (p : Place) (f : Fault) → IsBytes p.rest → items_at inner n found p ≡ Err f → ArrayFault P F n p f
   unfolding items_at
   items_fault zero found p f fits e = absurd (let h : done (found, p) ≡ Err f = e in not_err _ f h)
   items_fault (suc n) found p f fits e =
       elim (bind_err (inner p) (λ x. items_at inner n (found ++ x.0 ∷ []) x.1) f e) [
-        | inl stop ↦ record { members = []; more = p.rest; fewer = omega arith; proper = tt; spelled = refl; next = subst (λ (q : Place). F q f) (here_is p) (refuses p f fits stop) }
+        | inl stop ↦ record { members = []; more = p.rest; fewer = omega arith; proper = tt; spelled = refl; next = subst (λ (q : Place). F q f) (sym (behind_here p)) (refuses p f fits stop) }
         | inr go ↦
             let x = go.0 in
             let one = takes p x fits go.1 in
@@ -88,7 +82,7 @@ module _ (inner : Reader Fault Item) (P : Item → Type 0) (F : Place → Fault 
               fewer = omega (arith, later.fewer);
               proper = (one.1, later.proper);
               spelled = one.0.rest ∙ ap (λ (t : List ℕ). spelling x.0 ++ t) later.spelled ∙ sym (append_assoc (spelling x.0) (spellings later.members) later.more) ∙ ap (λ (t : List ℕ). t ++ later.more) (sym (flat_map-cons spelling x.0 later.members));
-              next = subst (λ (q : Place). F q f) (place_then p (spelling x.0) x.1 (spellings later.members) later.more one.0.at ∙ ap (λ (t : List ℕ). behind p.at t later.more) (sym (flat_map-cons spelling x.0 later.members))) later.next;
+              next = subst (λ (q : Place). F q f) (behind_then p (spelling x.0) x.1 (spellings later.members) later.more one.0.at ∙ ap (λ (t : List ℕ). behind p.at t later.more) (sym (flat_map-cons spelling x.0 later.members))) later.next;
             }
       ]
 
@@ -101,7 +95,7 @@ module _ (inner : Reader Fault Item) (P : Item → Type 0) (F : Place → Fault 
       let bytes : p.rest ≡ (spelling x ++ spelling y) ++ r.rest = one.rest ∙ ap (λ (t : List ℕ). spelling x ++ t) two.rest ∙ sym (append_assoc (spelling x) (spelling y) r.rest) in
       let at : r.at ≡ p.at + length (spelling x ++ spelling y) = omega (arith, one.at, two.at, length-append (spelling x) (spelling y)) in
       let place : behind r.at (pair_spellings later.pairs) later.more ≡ behind p.at (pair_spellings (pair ∷ later.pairs)) later.more
-      = place_then p (spelling x ++ spelling y) r (pair_spellings later.pairs) later.more at ∙ ap (λ (t : List ℕ). behind p.at t later.more) (sym spelled) in
+      = behind_then p (spelling x ++ spelling y) r (pair_spellings later.pairs) later.more at ∙ ap (λ (t : List ℕ). behind p.at t later.more) (sym spelled) in
       record {
         pairs = pair ∷ later.pairs;
         more = later.more;
@@ -117,7 +111,7 @@ module _ (inner : Reader Fault Item) (P : Item → Type 0) (F : Place → Fault 
   pairs_fault zero found last p f fits e = absurd (let h : done (found, p) ≡ Err f = e in not_err _ f h)
   pairs_fault (suc n) found last p f fits e =
       elim (bind_err (inner p) (λ key. cond (bytes_below last (between p key.1)) (inner key.1 >>= λ value. pairs_at inner n (found ++ record { key = key.0; value = value.0 } ∷ []) (between p key.1) value.1) (fault p.at why.KeyOrder)) f e) [
-        | inl stop ↦ record { pairs = []; more = p.rest; fewer = omega arith; proper = tt; ascend = tt; spelled = refl; next = inl (subst (λ (q : Place). F q f) (here_is p) (refuses p f fits stop)) }
+        | inl stop ↦ record { pairs = []; more = p.rest; fewer = omega arith; proper = tt; ascend = tt; spelled = refl; next = inl (subst (λ (q : Place). F q f) (sym (behind_here p)) (refuses p f fits stop)) }
         | inr go ↦
             let x = go.0 in
             let one = takes p x fits go.1 in
@@ -133,7 +127,7 @@ module _ (inner : Reader Fault Item) (P : Item → Type 0) (F : Place → Fault 
                     proper = tt;
                     ascend = tt;
                     spelled = refl;
-                    next = inr (subst (λ (q : Place). AfterKey P F last q f) (here_is p) (record { key = x.0; more = x.1.rest; proper = one.1; spelled = one.0.rest; next = inl (order, which) }));
+                    next = inr (subst (λ (q : Place). AfterKey P F last q f) (sym (behind_here p)) (record { key = x.0; more = x.1.rest; proper = one.1; spelled = one.0.rest; next = inl (order, which) }));
                   }
               | inl right ↦
                   let order : bytes_below last (spelling x.0) ≡ true = subst (λ (t : List ℕ). bytes_below last t ≡ true) text right.0 in
@@ -147,7 +141,7 @@ module _ (inner : Reader Fault Item) (P : Item → Type 0) (F : Place → Fault 
                           proper = tt;
                           ascend = tt;
                           spelled = refl;
-                          next = inr (subst (λ (q : Place). AfterKey P F last q f) (here_is p) (record { key = x.0; more = x.1.rest; proper = one.1; spelled = one.0.rest; next = inr (order, subst (λ (q : Place). F q f) (sym after) (refuses x.1 f one.0.fits stop)) }));
+                          next = inr (subst (λ (q : Place). AfterKey P F last q f) (sym (behind_here p)) (record { key = x.0; more = x.1.rest; proper = one.1; spelled = one.0.rest; next = inr (order, subst (λ (q : Place). F q f) (sym after) (refuses x.1 f one.0.fits stop)) }));
                         }
                     | inr more ↦
                         let y = more.0 in

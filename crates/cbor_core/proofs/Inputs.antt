@@ -14,7 +14,7 @@ use Rattle.cbor_heads.specs.Reading.{Outcome, Stops}
 use Rattle.cbor_core.specs.Reading.{fault_in, Decodes, IsFound, IsRefused, item_at}
 use Rattle.cbor_heads.proofs.Public.Outcomes.{ok_is, err_is}
 use Rattle.cbor_core.proofs.Items.{item_takes}
-use Rattle.cbor_core.proofs.Again.{item_again}
+use Rattle.cbor_core.proofs.Public.Whole.{reads, whole_front}
 use Rattle.cbor_core.proofs.Faults.{item_fault}
 use Rattle.cbor_core.proofs.Refused.{item_refuses}
 use Rattle.cbor_core.specs.Law.{SpellsFront, IsFaulty, IsFaultyWhole, OneItem, OneFault, ExactlyOne, SpelledInFront, OneForOne}
@@ -27,14 +27,6 @@ found bytes (Ok x) fits d =
     let front : take x.1 bytes ≡ spelling x.0 = rw (n, bytes_are) (take_at (spelling x.0) d.0.rest (length (spelling x.0)) refl) in
     (omega (arith, ap length bytes_are, length-append (spelling x.0) d.0.rest, n), record { proper = t.1.0; ranges = t.1.1; spelled = front })
 found bytes (Err e) fits d = tt
-
--- what is spelled is what is read
-pub reads : (bytes : List ℕ) (x : Item) (n : ℕ) → n ≤ length bytes → Spells x (take n bytes) → item_at 16 (start bytes) ≡ Ok (x, record { at = n; rest = drop n bytes })
-reads bytes x n le s =
-    let len : length (spelling x) ≡ n = ap length (sym s.spelled) ∙ omega (arith, length-take n bytes) in
-    let bytes_are : bytes ≡ spelling x ++ drop n bytes = sym (take-append-drop n bytes) ∙ ap (λ (t : List ℕ). t ++ drop n bytes) s.spelled in
-    let at : 0 + length (spelling x) ≡ n = omega arith in
-    ap (λ (t : List ℕ). item_at 16 (start t)) bytes_are ∙ item_again 16 x (s.proper, s.ranges) 0 (drop n bytes) ∙ ap (λ (k : ℕ). Ok (x, record { at = k; rest = drop n bytes })) at
 
 fails_not : (e : CborFault) (o : Outcome Fault Item) (y : Item × Place) → o ≡ Ok y → Stops o (fault_in e) → (x : Item × ℕ) → IsFound (Err e) x
 fails_not faults.NoMemory o y is h x = tt
@@ -85,11 +77,6 @@ exactly_one bytes fits = by_outcome bytes fits (item_at 16 (start bytes)) refl
 
 -- ---- bytes as a whole
 
-pub whole_front : (bytes : List ℕ) (x : Item) → Spells x bytes → SpellsFront bytes x (length bytes)
-whole_front bytes x s =
-    let all : take (length bytes) bytes ≡ bytes = ap (λ (t : List ℕ). take (length bytes) t) (sym (append-nil bytes)) ∙ take_at bytes [] (length bytes) refl in
-    (omega arith, record { proper = s.proper; ranges = s.ranges; spelled = all ∙ s.spelled })
-
 pub only_err : (bytes : List ℕ) (e : CborFault) → ((x : Item) (n : ℕ) → SpellsFront bytes x n → IsFound {A = Item × ℕ} (Err e) (x, n))
     → (x : Item) → Spells x bytes → IsFound {A = Item} (Err e) x
 only_err bytes faults.NoMemory only x s = tt
@@ -117,21 +104,3 @@ refused_not bytes x n f all only no_fault (inr extra) =
     let at : n ≡ f.at = ap (λ (y : Item × ℕ). y.1) e in
     let more : f.at < length bytes = extra.more in
     absurd (omega arith)
-
--- ---- items and their bytes
-
-pub spelled_in_front : SpelledInFront
-spelled_in_front x bytes more s =
-    let front : take (length bytes) (bytes ++ more) ≡ bytes = take_at bytes more (length bytes) refl in
-    (omega (arith, length-append bytes more), record { proper = s.proper; ranges = s.ranges; spelled = front ∙ s.spelled })
-
-pub reads_whole : (bytes : List ℕ) (x : Item) → Spells x bytes → item_at 16 (start bytes) ≡ Ok (x, record { at = length bytes; rest = drop (length bytes) bytes })
-reads_whole bytes x s = let front = whole_front bytes x s in reads bytes x (length bytes) front.0 front.1
-
-pub one_for_one : OneForOne
-one_for_one = record {
-  one_item = λ x y bytes s t.
-      (let rest : Place = record { at = length bytes; rest = drop (length bytes) bytes } in
-      ap (λ (z : Item × Place). z.0) (ok_is (x, rest) (y, rest) (sym (reads_whole bytes x s) ∙ reads_whole bytes y t)));
-  one_spelling = λ x a b s t. (s.spelled ∙ sym t.spelled);
-}

@@ -1,7 +1,9 @@
 pub mod Spell
 pub mod Levels
 pub mod Parts
+pub mod Ranges
 pub mod KeyOrder
 pub mod Sizes
 pub mod Views
 pub mod Whole
+pub mod ExactlyOne

@@ -22,7 +22,8 @@ use Rattle.cbor_core.specs.Faulty.{last_key, ArrayFault, AfterKey, MapFault, Par
 use Rattle.cbor_core.specs.Table.{body_rule}
 use Rattle.cbor_core.proofs.Tables.{rule_by, first_rule-table, part_in}
 use Rattle.cbor_core.proofs.Public.Spell.{pair_spelling_out}
-use Rattle.cbor_core.proofs.Again.{ReadsAgain, item_again, behind-append}
+use Rattle.cbor_core.proofs.Again.{ReadsAgain, item_again}
+use Rattle.cbor_heads.proofs.Public.Places.{behind-append}
 use Rattle.cbor_core.proofs.Faults.{head_fault}
 
 abbrev none : {A : Type 0} → Option A

@@ -13,19 +13,10 @@ use Rattle.cbor_heads.specs.Head.{head}
 use Rattle.cbor_core.specs.Spelling.{spelling, spellings, pair_spellings, bytes_below, KeysAscend}
 use Rattle.cbor_core.specs.Views.{labelled_by}
 use Rattle.cbor_core.proofs.Public.Spell.{spelling_Unsigned, spelling_Negative, spelling_Bytes, spelling_Text, spelling_Array, spelling_Map, spelling_Tag, spelling_Truth, spelling_Null}
+use Rattle.cbor_core.proofs.Public.KeyOrder.{first_smaller}
 use Rattle.cbor_heads.proofs.Public.Heads.{head_short}
 use Rattle.cbor_heads.proofs.Public.Fronts.{head_front}
 use Rattle.cbor_fields.specs.Written.{is_below_by}
-
--- bytes below one byte begin with a smaller one
-not_above : (first label : ℕ) (more : List ℕ) (b c : Bool) → nat_lt first label ≡ b → (first == label) ≡ c → bytes_below (first ∷ more) (label ∷ []) ≡ true → nat_lt first label ≡ true
-not_above first label more true c is same below = is
-not_above first label [] false true is same below = absurd (let h = rw (is, same) at below in cc)
-not_above first label (m ∷ ms) false true is same below = absurd (let h = rw (is, same) at below in cc)
-not_above first label more false false is same below = absurd (let h = rw (is, same) at below in cc)
-
-first_smaller : (first label : ℕ) (more : List ℕ) → bytes_below (first ∷ more) (label ∷ []) ≡ true → first < label
-first_smaller first label more below = ltb-true first label (not_above first label more (nat_lt first label) (first == label) refl refl below)
 
 -- what begins with the head of another major type is not below a label
 not_below : (major n label : ℕ) (more bytes : List ℕ) → 1 ≤ major → label < 24 → bytes ≡ head major n ++ more → bytes_below bytes (label ∷ []) ≡ true → ⊥

@@ -4,4 +4,5 @@ pub mod Texts
 pub mod Heads
 pub mod Kinds
 pub mod Fronts
+pub mod Places
 pub mod Sizes

@@ -85,6 +85,15 @@ impl Writer {
         push_string(&mut self.out, 2, bytes)
     }
 
+    /// Begins a byte string, which the next n bytes are the content of.
+    pub fn bytes_head(&mut self, n: u64) -> OrMemory<()>
+        ensures written { OnOk result (self.new ≡ self.old ++ head 2 n) }
+        ensures kept { OnErr result (self.new ≡ self.old) }
+        ensures range { n < 2 ^ 64 }
+    {
+        push_head(&mut self.out, 2, n)
+    }
+
     /// Writes a text string.
     pub fn text(&mut self, text: &str) -> OrMemory<()>
         ensures written { OnOk result (self.new ≡ self.old ++ (head 3 (length text.now) ++ text.now)) }

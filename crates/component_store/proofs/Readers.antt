@@ -8,7 +8,7 @@ use Rattle.evidence.specs.declared.ids.DeviceIds.{DeviceIds}
 use Rattle.hss_sign.specs.declared.params.KeyParams.{KeyParams}
 use Rattle.trust_anchors.specs.declared.anchors.Anchors.{Anchors}
 use Rattle.trust_anchors.specs.Anchors.{AnchorsIs}
-use Rattle.trust_anchors.proofs.Readers.{is_only}
+use Rattle.trust_anchors.proofs.Public.OneAnchors.{one_set}
 use Rattle.component_store.specs.declared.config.Config.{Config}
 use Rattle.component_store.specs.declared.config.TheConstants.{CONFIG_LIMIT}
 use Rattle.component_store.specs.declared.fault.ConfigFault.{ConfigFault}
@@ -40,12 +40,6 @@ one_params x y z a b first second =
     ∙ ap (λ (n : ℕ). params_of b.levels n a.width) (same_some first.height_is second.height_is)
     ∙ ap (λ (n : ℕ). params_of b.levels b.height n) (same_some first.width_is second.width_is)
 
--- an item is one list of anchors at most
-one_anchors : (x : Item) (v w : Anchors) → AnchorsIs v x → AnchorsIs w x → v ≡ w
-one_anchors x v w first second =
-    is_only x first.managers first.authors (Ok v) first.small.form.array
-    ((first.small.form.manager, first.small.form.author), (first.small.manager, first.small.author), first.manager, first.author) w second
-
 abbrev config_of : DeviceIds → ℕ → KeyParams → List ℕ → Anchors → Config
 config_of device quota params seed anchors = record { device = device; quota = quota; params = params; key_seed = seed; anchors = anchors }
 
@@ -55,7 +49,7 @@ one_of_parts (a ∷ b ∷ c ∷ q ∷ l ∷ h ∷ n ∷ s ∷ k ∷ []) v w firs
     ∙ ap (λ (m : ℕ). config_of w.device m v.params v.key_seed v.anchors) (same_some first.quota_is.number second.quota_is.number)
     ∙ ap (λ (p : KeyParams). config_of w.device w.quota p v.key_seed v.anchors) (one_params l h n v.params w.params first.params second.params)
     ∙ ap (λ (t : List ℕ). config_of w.device w.quota w.params t v.anchors) (same_some first.seed_is.bytes second.seed_is.bytes)
-    ∙ ap (λ (t : Anchors). config_of w.device w.quota w.params w.key_seed t) (one_anchors k v.anchors w.anchors first.anchors_are.are second.anchors_are.are)
+    ∙ ap (λ (t : Anchors). config_of w.device w.quota w.params w.key_seed t) (one_set k v.anchors w.anchors first.anchors_are.are second.anchors_are.are)
 one_of_parts [] v w first second = absurd first
 one_of_parts (a ∷ []) v w first second = absurd first
 one_of_parts (a ∷ b ∷ []) v w first second = absurd first

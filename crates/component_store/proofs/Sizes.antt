@@ -4,13 +4,11 @@ use Rattle.std.specs.Prelude.{None}
 use Rattle.std.specs.List.{AllZip}
 use Rattle.std.proofs.lemmas.List.{length-append}
 use Rattle.cbor_core.specs.declared.item.Item.{Item}
+use Rattle.cbor_core.specs.declared.item.Pair.{Pair}
 use Rattle.cbor_core.specs.declared.item.Item.TheVariants as i
-use Rattle.cbor_heads.specs.Head.{head}
 use Rattle.cbor_core.specs.Spelling.{spelling, spellings}
-use Rattle.cbor_core.proofs.Public.Spell.{spelling_Unsigned, spelling_Negative, spelling_Bytes, spelling_Map, pair_spelling_out}
-use Rattle.cbor_heads.proofs.Public.Sizes.{head_size}
-use Rattle.cbor_core.proofs.Public.Sizes.{number_size, string_size, array_size}
-use Rattle.lms_core.proofs.Keys.{fields_at}
+use Rattle.cbor_core.proofs.Public.Sizes.{number_size, negative_size, string_size, array_size, map_size, more_pairs}
+use Rattle.lms_core.proofs.Public.Forms.{key_size}
 use Rattle.lms_core.specs.Bytes.{u32_bytes}
 use Rattle.hss_verify.specs.Hss.{IsHssPublic}
 use Rattle.cose_core.specs.Key.{written_key}
@@ -25,24 +23,33 @@ use Rattle.hss_sign.specs.Params.{IsProperParams}
 use Rattle.component_store.specs.Config.{PartsAre, ConfigIs, IsConfig}
 use Rattle.component_store.specs.Written.{written_config}
 
-key_bytes : (public : List ℕ) → spelling (written_key (record { kid = None; public = public }))
-    ≡ head 5 3 ++ ((head 0 1 ++ head 0 5) ++ ((head 0 3 ++ head 1 45) ++ ((head 1 0 ++ (head 2 (length public) ++ public)) ++ [])))
-key_bytes public = simp (spelling_Map, spelling_Unsigned, spelling_Negative, spelling_Bytes, pair_spelling_out)
-
-summed : (a b c d e f g t : List ℕ) → length a ≤ 9 → length b ≤ 9 → length c ≤ 9 → length d ≤ 9 → length e ≤ 9 → length f ≤ 9 → length g ≤ 9
-    → length (a ++ ((b ++ c) ++ ((d ++ e) ++ ((f ++ (g ++ t)) ++ [])))) ≤ length t + 63
-summed a b c d e f g t ha hb hc hd he hf hg = simp length-append (omega arith)
-
 hss_size : (public : List ℕ) → IsHssPublic public → length public ≡ 60
 hss_size public is =
-    let top : length is.top ≡ 56 = (fields_at is.top is.known.0 is.known.1).size in
+    let top : length is.top ≡ 56 = key_size is.top is.known.0 is.known.1 in
     ap length is.spelled ∙ length-append (u32_bytes is.levels) is.top ∙ ap (λ (n : ℕ). 4 + n) top
 
+-- {1: 5, 3: -46, -1: public}
+key_size_of : (public : List ℕ) → length (spelling (written_key (record { kid = None; public = public }))) ≤ length public + 63
+key_size_of public =
+    let last : Pair = record { key = i.Negative 0; value = i.Bytes public } in
+    let second : Pair = record { key = i.Unsigned 3; value = i.Negative 45 } in
+    let first : Pair = record { key = i.Unsigned 1; value = i.Unsigned 5 } in
+    omega (
+      arith,
+      map_size (first ∷ second ∷ last ∷ []),
+      more_pairs (i.Unsigned 1) (i.Unsigned 5) (second ∷ last ∷ []),
+      more_pairs (i.Unsigned 3) (i.Negative 45) (last ∷ []),
+      more_pairs (i.Negative 0) (i.Bytes public) [],
+      number_size 1,
+      number_size 5,
+      number_size 3,
+      negative_size 45,
+      negative_size 0,
+      string_size public,
+    )
+
 wrapped_size : (public : List ℕ) (x : Item) → Wraps public x → length (spelling (wrapped_key public)) ≤ 132
-wrapped_size public x w =
-    let inner : length (spelling (written_key (record { kid = None; public = public }))) ≤ length public + 63 =
-    rw (key_bytes public) (summed _ _ _ _ _ _ _ public (head_size 5 3) (head_size 0 1) (head_size 0 5) (head_size 0 3) (head_size 1 45) (head_size 1 0) (head_size 2 (length public))) in
-    omega (arith, string_size (spelling (written_key (record { kid = None; public = public }))), hss_size public w.known)
+wrapped_size public x w = omega (arith, key_size_of public, string_size (spelling (written_key (record { kid = None; public = public }))), hss_size public w.known)
 
 keys_size : (keys : List (List ℕ)) (xs : List Item) → AllZip Wraps keys xs → length (spellings (map wrapped_key keys)) ≤ 132 * length keys
 keys_size [] [] all = omega arith

@@ -2,7 +2,6 @@ pub mod Views
 pub mod Forms
 pub mod Sign1s
 pub mod Keys
-pub mod Ranges
 pub mod Written
 pub mod There
 pub mod Public

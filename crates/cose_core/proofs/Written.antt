@@ -1,8 +1,9 @@
 -- Pieces that are written one behind the other spell the item that they are parts of.
-use Rattle.std.proofs.Common.{◌≡◌, ℕ, zero, suc, ◌<◌, ◌^◌, List, [], ◌∷◌, ◌++◌, length, Option, Some, None, codes, refl, sym, ap, subst, arith}
+use Rattle.std.proofs.Common.{rules, ◌≡◌, ℕ, zero, suc, ◌<◌, ◌^◌, List, [], ◌∷◌, ◌++◌, length, Option, Some, None, codes, refl, sym, ap, subst, arith}
 use Rattle.std.proofs.lemmas.List.{append-nil, append_assoc}
 use Rattle.std.specs.Str.{IsUtf8}
 use Rattle.std.specs.List.{AllByRecursion}
+use Rattle.std.proofs.lemmas.Str.{IsUtf8-from_ascii}
 use Rattle.base_types.specs.Bytes.{IsBytes}
 use Rattle.cbor_heads.specs.Head.{head}
 use Rattle.cbor_core.specs.declared.item.Item.{Item}
@@ -15,38 +16,32 @@ use Rattle.cbor_core.proofs.Public.Parts.{parts_are_proper}
 use Rattle.cose_core.specs.declared.sign1.Sign1.{Sign1}
 use Rattle.cose_core.specs.Sign1.{payload_item, untagged, tagged}
 use Rattle.cose_core.specs.Signed.{signed_item}
-use Rattle.cose_core.proofs.Ranges.{two_fewer}
+use Rattle.cbor_core.proofs.Public.Ranges.{two_fewer, string_ranges, text_ranges, array_ranges}
 
 -- ---- what is signed
 
 signed_proper : (protected payload : List ℕ) → IsProper (signed_item protected payload)
 signed_proper protected payload = grind (arith, layers)
 
-string_ranges : (d : ℕ) (bytes : List ℕ) → IsBytes bytes → length bytes < 2 ^ 64 → HasRangesWithin d (i.Bytes bytes)
-string_ranges zero bytes are len = rw i.outs-Bytes (are, len)
-string_ranges (suc d) bytes are len = rw i.outs-Bytes (are, len)
+-- the heads and what stands between them
+pub signed_joined : (protected payload text nothing w0 w1 w2 w3 v0 v1 v2 : List ℕ) → w0 ≡ [] → w1 ≡ w0 ++ head 4 4 → text ≡ codes "Signature1" → w2 ≡ w1 ++ (head 3 (length text) ++ text)
+    → w3 ≡ w2 ++ head 2 (length protected) → v0 ≡ [] → nothing ≡ [] → v1 ≡ v0 ++ (head 2 (length nothing) ++ nothing) → v2 ≡ v1 ++ head 2 (length payload)
+    → w3 ++ (protected ++ (v2 ++ payload)) ≡ spelling (signed_item protected payload)
+signed_joined protected payload text nothing w0 w1 w2 w3 v0 v1 v2 e0 e1 is_text e2 e3 f0 is_nothing f1 f2 =
+    rw (e3, e2, e1, e0, f2, f1, f0, is_text, is_nothing) (simp (spelling_Array, spelling_Text, spelling_Bytes, append_assoc, append-nil))
 
-text_ranges : (d : ℕ) (text : List ℕ) → IsUtf8 text → length text < 2 ^ 64 → HasRangesWithin d (i.Text text)
-text_ranges zero text is len = rw i.outs-Text (is, len)
-text_ranges (suc d) text is len = rw i.outs-Text (is, len)
+-- four pieces, written one behind the other
+pub in_pieces : (a b c d w0 w1 w2 w3 w4 : List ℕ) → w0 ≡ [] → w1 ≡ w0 ++ a → w2 ≡ w1 ++ b → w3 ≡ w2 ++ c → w4 ≡ w3 ++ d → w4 ≡ a ++ (b ++ (c ++ d))
+in_pieces a b c d w0 w1 w2 w3 w4 e0 e1 e2 e3 e4 = rw (e4, e3, e2, e1, e0) (simp append_assoc)
 
-array_ranges : (d : ℕ) (xs : List Item) → AllByRecursion (HasRangesWithin d) xs → length xs < 2 ^ 64 → HasRangesWithin (suc d) (i.Array xs)
-array_ranges d xs all len = rw i.outs-Array (all, len)
-
-pub signed_spelled : (protected payload text nothing w0 w1 w2 w3 w4 w5 : List ℕ) → w0 ≡ [] → w1 ≡ w0 ++ head 4 4 → text ≡ codes "Signature1" → IsUtf8 text → length text < 2 ^ 64
-    → w2 ≡ w1 ++ (head 3 (length text) ++ text) → IsBytes protected → length protected < 2 ^ 64 → w3 ≡ w2 ++ (head 2 (length protected) ++ protected)
-    → nothing ≡ [] → IsBytes nothing → length nothing < 2 ^ 64 → w4 ≡ w3 ++ (head 2 (length nothing) ++ nothing) → IsBytes payload → length payload < 2 ^ 64 → w5 ≡ w4 ++ (head 2 (length payload) ++ payload)
-    → Spells (signed_item protected payload) w5
-signed_spelled protected payload text nothing w0 w1 w2 w3 w4 w5 e0 e1 is_text utf8 text_len e2 are len e3 is_nothing none none_len e4 payload_are payload_len e5 = record {
+-- bytes with the heads between them are what a signature is of
+pub signed_spelled : (protected payload bytes : List ℕ) → IsBytes protected → length protected < 2 ^ 64 → IsBytes payload → length payload < 2 ^ 64
+    → bytes ≡ spelling (signed_item protected payload) → Spells (signed_item protected payload) bytes
+signed_spelled protected payload bytes are len payload_are payload_len is = record {
   proper = signed_proper protected payload;
-  ranges = array_ranges 15 (i.Text (codes "Signature1") ∷ i.Bytes protected ∷ i.Bytes [] ∷ i.Bytes payload ∷ []) (
-    subst (λ (t : List ℕ). HasRangesWithin 15 (i.Text t)) is_text (text_ranges 15 text utf8 text_len),
-    (
-      string_ranges 15 protected are len,
-      (subst (λ (t : List ℕ). HasRangesWithin 15 (i.Bytes t)) is_nothing (string_ranges 15 nothing none none_len), (string_ranges 15 payload payload_are payload_len, tt)),
-    ),
-  ) (omega arith);
-  spelled = rw (e5, e4, e3, e2, e1, e0, is_text, is_nothing) (simp (spelling_Array, spelling_Text, spelling_Bytes, append_assoc, append-nil));
+  ranges = array_ranges 15 (i.Text (codes "Signature1") ∷ i.Bytes protected ∷ i.Bytes [] ∷ i.Bytes payload ∷ [])
+      (text_ranges 15 (codes "Signature1") (IsUtf8-from_ascii (codes "Signature1") (search rules)) (omega arith), (string_ranges 15 protected are len, (string_ranges 15 [] (λ k. omega arith) (omega arith), (string_ranges 15 payload payload_are payload_len, tt)))) (omega arith);
+  spelled = is;
 }
 
 -- ---- a COSE_Sign1

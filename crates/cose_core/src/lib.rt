@@ -2,7 +2,7 @@
 //! COSE_Key (RFC 9052 and RFC 8778).
 //!
 //! `Sign1` is read and written with all headers that are not looked at. `signed_bytes` are the bytes
-//! that its signature is of. `CoseKey` is the form in which a public key travels.
+//! that its signature is of, and `SignedHeads` the same without a copy. `CoseKey` is the form in which a public key travels.
 #![tactic(auto)]
 
 mod fault;
@@ -23,4 +23,4 @@ pub use labels::{
 };
 pub use laws::exactly_one;
 pub use sign1::Sign1;
-pub use signed::signed_bytes;
+pub use signed::{SignedHeads, signed_bytes};

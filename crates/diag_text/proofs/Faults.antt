@@ -13,11 +13,12 @@ use Rattle.diag_text.specs.Faulty.{Starts, Begins, followed, NeitherMark, WrongB
 use Rattle.diag_text.proofs.Fronts.{not_starts}
 use Rattle.diag_text.proofs.Loops.{member_is}
 use Rattle.cbor_heads.proofs.Public.Outcomes.{bind_ok, chosen, ok_is, held, err_is, not_err, bind_err}
-use Rattle.diag_text.proofs.Takes.{Took, took_then, took_fits, token_took, NumberTook}
+use Rattle.diag_text.proofs.Takes.{TextTook, text_then, took_fits, token_took, NumberTook}
 use Rattle.diag_text.proofs.Again.{place}
 use Rattle.diag_text.proofs.Found.{TakesBy, Taken, PairIs, chain_all, chain_pairs, chain_ascends, member_takes, pair_takes, pair_parts, item_takes}
 use Rattle.diag_text.proofs.Level.{Level, level, scalar, nothing, square, curly, tagged, scalar_read, item_empty}
-use Rattle.diag_text.proofs.Halts.{behind_is, behind_then, Halts, parts_stop}
+use Rattle.cbor_heads.proofs.Public.Places.{behind_then}
+use Rattle.diag_text.proofs.Halts.{behind_is, Halts, parts_stop}
 
 -- what a reader refuses is faulty
 abbrev pub FaultBy : Reader ℕ Item → (Place → ℕ → Type 0) → Type 0
@@ -62,7 +63,7 @@ module _ (inner : Reader ℕ Item) (P : Item → Type 0) (F : Place → ℕ → 
   }
 
   -- a colon and a space stand, and what is behind them is at fault
-  after_colon : (q : Place) (at : ℕ) → Took q (codes ": ") (skip 2 q) → PartFault P F (NeitherMark (codes "}")) (skip 2 q) at → ColonFault P F q at
+  after_colon : (q : Place) (at : ℕ) → TextTook q (codes ": ") (skip 2 q) → PartFault P F (NeitherMark (codes "}")) (skip 2 q) at → ColonFault P F q at
   after_colon q at t fault = inr ((skip 2 q).rest, t.rest, subst (λ (r : Place). PartFault P F (NeitherMark (codes "}")) r at) (behind_is q (codes ": ") (skip 2 q) t) fault)
 
   key_is : (last : List ℕ) (q : Place) (x : Item × Place) → key_at inner last q ≡ Ok x → (inner q ≡ Ok x) × (bytes_below last (spelling x.0) ≡ true)
@@ -85,7 +86,7 @@ module _ (inner : Reader ℕ Item) (P : Item → Type 0) (F : Place → ℕ → 
             elim (chosen (begins (codes ": ") x.1.rest) (inner r >>= λ value. Ok (record { key = x.0; value = value.0 }, value.1)) (Err x.1.at) (Err at) go.2) [
               | inr none ↦ inr (after_key last q at x t a.1 (inl (not_starts (codes ": ") x.1.rest none.0, sym (err_is {A = Pair × Place} x.1.at at none.1))))
               | inl colon ↦
-                  let sep : Took x.1 (codes ": ") r = token_took (codes ": ") x.1 colon.0 in
+                  let sep : TextTook x.1 (codes ": ") r = token_took (codes ": ") x.1 colon.0 in
                   let left = took_fits x.1 (codes ": ") r sep (took_fits q (printed x.0) x.1 t.took fits) in
                   elim (bind_err (inner r) (λ value. Ok (record { key = x.0; value = value.0 }, value.1)) at colon.1) [
                     | inl value ↦ inr (after_key last q at x t a.1 (after_colon x.1 at sep (inl (refuses r at left value))))
@@ -105,7 +106,7 @@ module _ (inner : Reader ℕ Item) (P : Item → Type 0) (F : Place → ℕ → 
 
   -- ---- containers
 
-  behind_mark : (p : Place) (mark text more : List ℕ) → Took p mark (skip (length mark) p) → behind (skip (length mark) p).at text more ≡ behind p.at (mark ++ text) more
+  behind_mark : (p : Place) (mark text more : List ℕ) → TextTook p mark (skip (length mark) p) → behind (skip (length mark) p).at text more ≡ behind p.at (mark ++ text) more
   behind_mark p mark text more t = behind_then p mark (skip (length mark) p) text more t.at
 
   more_fits : (p : Place) (front more : List ℕ) → p.rest ≡ front ++ more → length p.rest < 2 ^ 64 → length more < 2 ^ 64
@@ -114,7 +115,7 @@ module _ (inner : Reader ℕ Item) (P : Item → Type 0) (F : Place → ℕ → 
   array_fault : (p : Place) (at : ℕ) → length p.rest < 2 ^ 64 → begins (codes "[") p.rest ≡ true → array_at (Some inner) p.at (skip 1 p) ≡ Err at → ArrayFault P F p at
   array_fault p at fits here e =
       let q : Place = skip 1 p in
-      let front : Took p (codes "[") q = token_took (codes "[") p here in
+      let front : TextTook p (codes "[") q = token_took (codes "[") p here in
       let left = took_fits p (codes "[") q front fits in
       elim (bind_err (inside_at (member_at inner) (codes "]") q) (λ y. Ok (i.Array y.0, y.1)) at e) [
         | inr done ↦ absurd (not_err (i.Array done.0.0, done.0.1) at done.2)
@@ -138,7 +139,7 @@ module _ (inner : Reader ℕ Item) (P : Item → Type 0) (F : Place → ℕ → 
   map_fault : (p : Place) (at : ℕ) → length p.rest < 2 ^ 64 → begins (codes "{") p.rest ≡ true → map_at (Some inner) p.at (skip 1 p) ≡ Err at → MapFault P F p at
   map_fault p at fits here e =
       let q : Place = skip 1 p in
-      let front : Took p (codes "{") q = token_took (codes "{") p here in
+      let front : TextTook p (codes "{") q = token_took (codes "{") p here in
       let left = took_fits p (codes "{") q front fits in
       elim (bind_err (inside_at (pair_at inner) (codes "}") q) (λ y. Ok (i.Map y.0, y.1)) at e) [
         | inr done ↦ absurd (not_err (i.Map done.0.0, done.0.1) at done.2)
@@ -163,8 +164,8 @@ module _ (inner : Reader ℕ Item) (P : Item → Type 0) (F : Place → ℕ → 
   tag_fault : (p : Place) (at : ℕ) (a : ℕ × Place) → length p.rest < 2 ^ 64 → NumberTook (2 ^ 64) p a → begins (codes "(") a.1.rest ≡ true → tag_at (Some inner) p.at a.0 (skip 1 a.1) ≡ Err at → TagFault P F p at
   tag_fault p at a fits number here e =
       let q : Place = skip 1 a.1 in
-      let sep : Took a.1 (codes "(") q = token_took (codes "(") a.1 here in
-      let front : Took p (decimal a.0 ++ codes "(") q = took_then p (decimal a.0) a.1 (codes "(") q number.took sep in
+      let sep : TextTook a.1 (codes "(") q = token_took (codes "(") a.1 here in
+      let front : TextTook p (decimal a.0 ++ codes "(") q = text_then p (decimal a.0) a.1 (codes "(") q number.took sep in
       let left = took_fits p (decimal a.0 ++ codes "(") q front fits in
       let next : PartFault P F (λ rest. Starts (codes ")") rest → ⊥) q at = (elim (bind_err (inner q) (λ x. past (codes ")") x.1 (λ s. Ok (i.Tag a.0 x.0, s))) at e) [
         | inl stop ↦ inl (refuses q at left stop)

@@ -23,7 +23,7 @@ use Rattle.diag_text.proofs.Texts.{printed_Unsigned, printed_Negative, printed_B
 use Rattle.diag_text.specs.Faulty.{Ends}
 use Rattle.diag_text.proofs.Fronts.{not_starts}
 use Rattle.cbor_heads.proofs.Public.Outcomes.{bind_ok, not_ok, ok_is, chosen, held, done}
-use Rattle.diag_text.proofs.Takes.{Took, took_then, took_fits, token_took, behind_took, pieces_take, Chain, parts_take, NumberTook, number_takes}
+use Rattle.diag_text.proofs.Takes.{TextTook, text_then, took_fits, token_took, behind_took, pieces_take, Chain, parts_take, NumberTook, number_takes}
 
 hex_small : (c : ℕ) → hex_value c < 16
 hex_small c = elim (cases_lt c 48) [
@@ -46,13 +46,13 @@ hex_fits text = omega (arith, hex_small (slice_index text 0), hex_small (slice_i
 
 -- an item whose text stood between two places
 pub record Whole (room : Bool) (P : Item → Type 0) (p : Place) (x : Item × Place) : Type 0 where
-  pub took : Took p (printed x.0) x.1
+  pub took : TextTook p (printed x.0) x.1
   pub ends : Ends x.0 x.1.rest
   pub proper : IsWholeBy room P (out-Item x.0)
 
 -- an item whose text stood between two places, and did not go on behind the second
 pub record Taken (P : Item → Type 0) (p : Place) (x : Item × Place) : Type 0 where
-  pub took : Took p (printed x.0) x.1
+  pub took : TextTook p (printed x.0) x.1
   pub ends : Ends x.0 x.1.rest
   pub proper : P x.0
 
@@ -60,35 +60,35 @@ abbrev pub TakesBy : Reader ℕ Item → (Item → Type 0) → Type 0
 TakesBy inner P = (p : Place) (x : Item × Place) → length p.rest < 2 ^ 64 → inner p ≡ Ok x → Taken P p x
 
 module _ (room : Bool) (P : Item → Type 0) where
-  made : (p q : Place) (y : Item) (text : List ℕ) (x : Item × Place) → Took p text q → printed y ≡ text → Ends y q.rest → IsWholeBy room P (out-Item y) → done {E = ℕ} (y, q) ≡ Ok x → Whole room P p x
+  made : (p q : Place) (y : Item) (text : List ℕ) (x : Item × Place) → TextTook p text q → printed y ≡ text → Ends y q.rest → IsWholeBy room P (out-Item y) → done {E = ℕ} (y, q) ≡ Ok x → Whole room P p x
   made p q y text x t is ends whole e = subst (λ (z : Item × Place). Whole room P p z) (ok_is (y, q) x e) (record { took = rw is t; ends = ends; proper = whole })
 
   pub word_takes : (p : Place) (token : List ℕ) (n : ℕ) (y : Item) (x : Item × Place) → begins token p.rest ≡ true → length token ≡ n → printed y ≡ token → Ends y (skip n p).rest
       → IsWholeBy room P (out-Item y) → done {E = ℕ} (y, skip n p) ≡ Ok x → Whole room P p x
-  word_takes p token n y x here len is ends whole e = made p (skip n p) y token x (subst (λ (k : ℕ). Took p token (skip k p)) len (token_took token p here)) is ends whole e
+  word_takes p token n y x here len is ends whole e = made p (skip n p) y token x (subst (λ (k : ℕ). TextTook p token (skip k p)) len (token_took token p here)) is ends whole e
 
   pub bytes_takes : (p : Place) (at : ℕ) (x : Item × Place) → begins (codes "h'") p.rest ≡ true → length p.rest < 2 ^ 64 → (bytes_at at (skip 2 p) >>= λ y. Ok (i.Bytes y.0, y.1)) ≡ Ok x → Whole room P p x
   bytes_takes p at x here fits e =
       let a = bind_ok (bytes_at at (skip 2 p)) (λ y. Ok (i.Bytes y.0, y.1)) x e in
       let q : Place = skip 2 p in
-      let front : Took p (codes "h'") q = token_took (codes "h'") p here in
+      let front : TextTook p (codes "h'") q = token_took (codes "h'") p here in
       let left = took_fits p (codes "h'") q front fits in
       let f = pieces_take hex_byte hex_guess (codes "'") at (length q.rest) [] q a.0 a.1 in
       let whole : IsWholeBy room P (out-Item (i.Bytes f.bytes)) = rw i.outs-Bytes (f.fit hex_fits, omega (arith, f.count, left)) in
-      made p a.0.1 (i.Bytes f.bytes) (codes "h'" ++ (flat_map hex_byte f.bytes ++ codes "'")) x (took_then p (codes "h'") q (flat_map hex_byte f.bytes ++ codes "'") a.0.1 front f.took) (printed_Bytes f.bytes) (rw i.outs-Bytes tt) whole
+      made p a.0.1 (i.Bytes f.bytes) (codes "h'" ++ (flat_map hex_byte f.bytes ++ codes "'")) x (text_then p (codes "h'") q (flat_map hex_byte f.bytes ++ codes "'") a.0.1 front f.took) (printed_Bytes f.bytes) (rw i.outs-Bytes tt) whole
       (ap (λ (bs : List ℕ). Ok (i.Bytes bs, a.0.1)) (sym f.all) ∙ a.2)
 
   pub string_takes : (p : Place) (at : ℕ) (x : Item × Place) → begins (codes "\"") p.rest ≡ true → length p.rest < 2 ^ 64 → string_at at (skip 1 p) ≡ Ok x → Whole room P p x
   string_takes p at x here fits e =
       let a = bind_ok (text_at at (skip 1 p)) (text_by at) x e in
       let q : Place = skip 1 p in
-      let front : Took p (codes "\"") q = token_took (codes "\"") p here in
+      let front : TextTook p (codes "\"") q = token_took (codes "\"") p here in
       let left = took_fits p (codes "\"") q front fits in
       let f = pieces_take escaped text_guess (codes "\"") at (length q.rest) [] q a.0 a.1 in
       let h = held (is_utf8 a.0.0) (Ok (i.Text a.0.0, a.0.1)) at x a.2 in
       let utf8 = IsUtf8-from_is_utf8 f.bytes (subst (λ (bs : List ℕ). is_utf8 bs ≡ true) f.all h.0) in
       let whole : IsWholeBy room P (out-Item (i.Text f.bytes)) = rw i.outs-Text (utf8, omega (arith, f.count, left)) in
-      made p a.0.1 (i.Text f.bytes) (codes "\"" ++ (flat_map escaped f.bytes ++ codes "\"")) x (took_then p (codes "\"") q (flat_map escaped f.bytes ++ codes "\"") a.0.1 front f.took) (printed_Text f.bytes) (rw i.outs-Text tt) whole
+      made p a.0.1 (i.Text f.bytes) (codes "\"" ++ (flat_map escaped f.bytes ++ codes "\"")) x (text_then p (codes "\"") q (flat_map escaped f.bytes ++ codes "\"") a.0.1 front f.took) (printed_Text f.bytes) (rw i.outs-Text tt) whole
       (ap (λ (bs : List ℕ). Ok (i.Text bs, a.0.1)) (sym f.all) ∙ h.1)
 
   pub negative_takes : (p : Place) (at : ℕ) (x : Item × Place) → begins (codes "-") p.rest ≡ true → negative_at at (skip 1 p) ≡ Ok x → Whole room P p x
@@ -101,17 +101,17 @@ module _ (room : Bool) (P : Item → Type 0) where
       let back : (a.0.0 - 1) + 1 ≡ a.0.0 = omega arith in
       let text : printed (i.Negative (a.0.0 - 1)) ≡ codes "-" ++ decimal a.0.0 = printed_Negative (a.0.0 - 1) ∙ ap (λ (k : ℕ). codes "-" ++ decimal k) back in
       let whole : IsWholeBy room P (out-Item (i.Negative (a.0.0 - 1))) = rw i.outs-Negative (omega (arith, number.below, some)) in
-      made p a.0.1 (i.Negative (a.0.0 - 1)) (codes "-" ++ decimal a.0.0) x (took_then p (codes "-") q (decimal a.0.0) a.0.1 (token_took (codes "-") p here) number.took) text (rw i.outs-Negative number.ends) whole h.1
+      made p a.0.1 (i.Negative (a.0.0 - 1)) (codes "-" ++ decimal a.0.0) x (text_then p (codes "-") q (decimal a.0.0) a.0.1 (token_took (codes "-") p here) number.took) text (rw i.outs-Negative number.ends) whole h.1
 
 -- ---- containers
 
 pub record Inside {X : Type 0} (text : X → List ℕ) (P : List X → X → Type 0) (close : List ℕ) (p : Place) (x : List X × Place) : Type 0 where
   pub count : length x.0 < 2 ^ 64
   pub each : Chain P [] x.0
-  pub took : Took p (listed text x.0 ++ close) x.1
+  pub took : TextTook p (listed text x.0 ++ close) x.1
 
 inside_takes : {X : Type 0} (part : List X → Reader ℕ X) (text : X → List ℕ) (P : List X → X → Type 0) (close : List ℕ)
-    → ((found : List X) (p : Place) (x : X × Place) → length p.rest < 2 ^ 64 → part found p ≡ Ok x → Took p (text x.0) x.1 × P found x.0)
+    → ((found : List X) (p : Place) (x : X × Place) → length p.rest < 2 ^ 64 → part found p ≡ Ok x → TextTook p (text x.0) x.1 × P found x.0)
     → (p : Place) (x : List X × Place) → length p.rest < 2 ^ 64 → inside_at part close p ≡ Ok x → Inside text P close p x
 inside_takes {X = X} part text P close law p x fits e =
     elim (chosen (begins close p.rest) (Ok ([], skip (length close) p)) (parts_at part close (length p.rest) [] p) (Ok x) e) [
@@ -142,11 +142,11 @@ pub record PairTaken (Q : Item → Type 0) (last : List ℕ) (p : Place) (x : Pa
   pub middle : Place
   pub key : Taken Q p (x.0.key, middle)
   pub below : bytes_below last (spelling x.0.key) ≡ true
-  pub colon : Took middle (codes ": ") (skip 2 middle)
+  pub colon : TextTook middle (codes ": ") (skip 2 middle)
   pub value : Taken Q (skip 2 middle) (x.0.value, x.1)
 
 module _ (inner : Reader ℕ Item) (Q : Item → Type 0) (law : TakesBy inner Q) where
-  pub member_takes : (found : List Item) (p : Place) (x : Item × Place) → length p.rest < 2 ^ 64 → member_at inner found p ≡ Ok x → Took p (printed x.0) x.1 × Q x.0
+  pub member_takes : (found : List Item) (p : Place) (x : Item × Place) → length p.rest < 2 ^ 64 → member_at inner found p ≡ Ok x → TextTook p (printed x.0) x.1 × Q x.0
   member_takes found p x fits e = let t = law p x fits (sym (member_is inner found p) ∙ e) in (t.took, t.proper)
 
   pub pair_parts : (found : List Pair) (p : Place) (x : Pair × Place) → length p.rest < 2 ^ 64 → pair_at inner found p ≡ Ok x → PairTaken Q (last_key [] found) p x
@@ -164,37 +164,37 @@ module _ (inner : Reader ℕ Item) (Q : Item → Type 0) (law : TakesBy inner Q)
       let made : PairTaken Q (last_key [] found) p (record { key = a.0.0; value = v.0.0 }, v.0.1) = record { middle = a.0.1; key = key; below = below; colon = sep.0; value = law q v.0 left v.1 } in
       subst (λ (y : Pair × Place). PairTaken Q (last_key [] found) p y) (ok_is (record { key = a.0.0; value = v.0.0 }, v.0.1) x v.2) made
 
-  pub pair_takes : (found : List Pair) (p : Place) (x : Pair × Place) → length p.rest < 2 ^ 64 → pair_at inner found p ≡ Ok x → Took p (pair_printed x.0) x.1 × PairIs Q found x.0
+  pub pair_takes : (found : List Pair) (p : Place) (x : Pair × Place) → length p.rest < 2 ^ 64 → pair_at inner found p ≡ Ok x → TextTook p (pair_printed x.0) x.1 × PairIs Q found x.0
   pair_takes found p x fits e =
       let t = pair_parts found p x fits e in
       let q : Place = skip 2 t.middle in
       let k : List ℕ = printed x.0.key in
       let v : List ℕ = printed x.0.value in
-      let took = took_then p k t.middle (codes ": " ++ v) x.1 t.key.took (took_then t.middle (codes ": ") q v x.1 t.colon t.value.took) in
-      (subst (λ (y : List ℕ). Took p y x.1) (sym (pair_printed_out x.0)) took, ((t.key.proper, t.value.proper), t.below))
+      let took = text_then p k t.middle (codes ": " ++ v) x.1 t.key.took (text_then t.middle (codes ": ") q v x.1 t.colon t.value.took) in
+      (subst (λ (y : List ℕ). TextTook p y x.1) (sym (pair_printed_out x.0)) took, ((t.key.proper, t.value.proper), t.below))
 
   array_takes : (p : Place) (at : ℕ) (x : Item × Place) → begins (codes "[") p.rest ≡ true → length p.rest < 2 ^ 64 → array_at (Some inner) at (skip 1 p) ≡ Ok x → Whole true Q p x
   array_takes p at x here fits e =
       let q : Place = skip 1 p in
-      let front : Took p (codes "[") q = token_took (codes "[") p here in
+      let front : TextTook p (codes "[") q = token_took (codes "[") p here in
       let a = bind_ok (inside_at (member_at inner) (codes "]") q) (λ y. Ok (i.Array y.0, y.1)) x e in
       let f = inside_takes (member_at inner) printed (λ before y. Q y) (codes "]") member_takes q a.0 (took_fits p (codes "[") q front fits) a.1 in
       let whole : IsWholeBy true Q (out-Item (i.Array a.0.0)) = rw i.outs-Array (refl, chain_all Q [] a.0.0 f.each, f.count) in
-      made true Q p a.0.1 (i.Array a.0.0) (codes "[" ++ (listed printed a.0.0 ++ codes "]")) x (took_then p (codes "[") q (listed printed a.0.0 ++ codes "]") a.0.1 front f.took) (printed_Array a.0.0) (rw i.outs-Array tt) whole a.2
+      made true Q p a.0.1 (i.Array a.0.0) (codes "[" ++ (listed printed a.0.0 ++ codes "]")) x (text_then p (codes "[") q (listed printed a.0.0 ++ codes "]") a.0.1 front f.took) (printed_Array a.0.0) (rw i.outs-Array tt) whole a.2
 
   map_takes : (p : Place) (at : ℕ) (x : Item × Place) → begins (codes "{") p.rest ≡ true → length p.rest < 2 ^ 64 → map_at (Some inner) at (skip 1 p) ≡ Ok x → Whole true Q p x
   map_takes p at x here fits e =
       let q : Place = skip 1 p in
-      let front : Took p (codes "{") q = token_took (codes "{") p here in
+      let front : TextTook p (codes "{") q = token_took (codes "{") p here in
       let a = bind_ok (inside_at (pair_at inner) (codes "}") q) (λ y. Ok (i.Map y.0, y.1)) x e in
       let f = inside_takes (pair_at inner) pair_printed (PairIs Q) (codes "}") pair_takes q a.0 (took_fits p (codes "{") q front fits) a.1 in
       let whole : IsWholeBy true Q (out-Item (i.Map a.0.0)) = rw i.outs-Map (refl, chain_pairs Q [] a.0.0 f.each, f.count, chain_ascends Q [] a.0.0 f.each) in
-      made true Q p a.0.1 (i.Map a.0.0) (codes "{" ++ (listed pair_printed a.0.0 ++ codes "}")) x (took_then p (codes "{") q (listed pair_printed a.0.0 ++ codes "}") a.0.1 front f.took) (printed_Map a.0.0) (rw i.outs-Map tt) whole a.2
+      made true Q p a.0.1 (i.Map a.0.0) (codes "{" ++ (listed pair_printed a.0.0 ++ codes "}")) x (text_then p (codes "{") q (listed pair_printed a.0.0 ++ codes "}") a.0.1 front f.took) (printed_Map a.0.0) (rw i.outs-Map tt) whole a.2
 
-  tag_takes : (p : Place) (at n : ℕ) (q : Place) (x : Item × Place) → Took p (decimal n) q → n < 2 ^ 64 → begins (codes "(") q.rest ≡ true → length p.rest < 2 ^ 64 → tag_at (Some inner) at n (skip 1 q) ≡ Ok x → Whole true Q p x
+  tag_takes : (p : Place) (at n : ℕ) (q : Place) (x : Item × Place) → TextTook p (decimal n) q → n < 2 ^ 64 → begins (codes "(") q.rest ≡ true → length p.rest < 2 ^ 64 → tag_at (Some inner) at n (skip 1 q) ≡ Ok x → Whole true Q p x
   tag_takes p at n q x number lt here fits e =
       let r : Place = skip 1 q in
-      let front : Took q (codes "(") r = token_took (codes "(") q here in
+      let front : TextTook q (codes "(") r = token_took (codes "(") q here in
       let left = took_fits q (codes "(") r front (took_fits p (decimal n) q number fits) in
       let a = bind_ok (inner r) (λ y. past (codes ")") y.1 (λ s. Ok (i.Tag n y.0, s))) x e in
       let one = law r a.0 left a.1 in
@@ -202,7 +202,7 @@ module _ (inner : Reader ℕ Item) (Q : Item → Type 0) (law : TakesBy inner Q)
       let s : Place = skip 1 a.0.1 in
       let whole : IsWholeBy true Q (out-Item (i.Tag n a.0.0)) = rw i.outs-Tag (refl, one.proper, lt) in
       made true Q p s (i.Tag n a.0.0) (decimal n ++ (codes "(" ++ (printed a.0.0 ++ codes ")"))) x
-      (took_then p (decimal n) q (codes "(" ++ (printed a.0.0 ++ codes ")")) s number (took_then q (codes "(") r (printed a.0.0 ++ codes ")") s front (took_then r (printed a.0.0) a.0.1 (codes ")") s one.took end.0)))
+      (text_then p (decimal n) q (codes "(" ++ (printed a.0.0 ++ codes ")")) s number (text_then q (codes "(") r (printed a.0.0 ++ codes ")") s front (text_then r (printed a.0.0) a.0.1 (codes ")") s one.took end.0)))
       (printed_Tag n a.0.0) (rw i.outs-Tag tt) whole end.1
 
 -- ---- an item

@@ -5,21 +5,16 @@ use Rattle.cbor_heads.specs.Reading.{Reader}
 use Rattle.diag_text.specs.Reading.{past, parts_at}
 use Rattle.diag_text.specs.Faulty.{followed}
 use Rattle.diag_text.proofs.Fronts.{stops_comma}
+use Rattle.cbor_heads.proofs.Public.Places.{behind_here, behind_then}
 use Rattle.cbor_heads.proofs.Public.Outcomes.{chosen, err_is, not_err, bind_err}
-use Rattle.diag_text.proofs.Takes.{Took, took_then, took_fits, token_took, Chain}
+use Rattle.diag_text.proofs.Takes.{TextTook, text_then, took_fits, token_took, Chain}
 use Rattle.diag_text.proofs.Again.{place, IsMark, Each}
 
 -- ---- places
 
 -- the place behind a text that was taken
-pub behind_is : (p : Place) (text : List ℕ) (q : Place) → Took p text q → q ≡ behind p.at text q.rest
+pub behind_is : (p : Place) (text : List ℕ) (q : Place) → TextTook p text q → q ≡ behind p.at text q.rest
 behind_is p text q t = ap (λ (n : ℕ). place n q.rest) t.at
-
-pub behind_here : (p : Place) → behind p.at [] p.rest ≡ p
-behind_here p = let e : p.at + 0 ≡ p.at = omega arith in ap (λ (n : ℕ). place n p.rest) e
-
-pub behind_then : (p : Place) (a : List ℕ) (q : Place) (b more : List ℕ) → q.at ≡ p.at + length a → behind q.at b more ≡ behind p.at (a ++ b) more
-behind_then p a q b more at = let e : q.at + length b ≡ p.at + length (a ++ b) = omega (arith, at, length-append a b) in ap (λ (n : ℕ). place n more) e
 
 no_more : (bytes : List ℕ) → length bytes ≤ 0 → bytes ≡ []
 no_more [] none = refl
@@ -50,7 +45,7 @@ halts_from : {X : Type 0} (part : List X → Reader ℕ X) (close : List ℕ) (a
 halts_from {X = X} part close a b p q at e f h = subst (λ (s : Place). Halts part close b s at) f (subst (λ (xs : List X). Halts part close xs p at) e h)
 
 module _ {X : Type 0} (part : List X → Reader ℕ X) (text : X → List ℕ) (P : List X → X → Type 0) (close : List ℕ)
-    (law : (found : List X) (p : Place) (x : X × Place) → length p.rest < 2 ^ 64 → part found p ≡ Ok x → Took p (text x.0) x.1 × P found x.0)
+    (law : (found : List X) (p : Place) (x : X × Place) → length p.rest < 2 ^ 64 → part found p ≡ Ok x → TextTook p (text x.0) x.1 × P found x.0)
     (empty : (found : List X) (b : ℕ) → part found (place b []) ≡ Err b) where
   -- the next part comes to a halt
   stopped_here : (found : List X) (p : Place) (at : ℕ) → Halts part close found p at → Stopped part text P close found p at
@@ -62,7 +57,7 @@ module _ {X : Type 0} (part : List X → Reader ℕ X) (text : X → List ℕ) (
     next = halts_from part close found (found ++ []) p (behind p.at [] p.rest) at (sym (append-nil found)) (sym (behind_here p)) h;
   }
 
-  stopped_later : (found : List X) (p : Place) (at : ℕ) (x : X) (q : Place) → Took p (text x ++ codes ", ") q → P found x → Stopped part text P close (found ++ x ∷ []) q at → Stopped part text P close found p at
+  stopped_later : (found : List X) (p : Place) (at : ℕ) (x : X) (q : Place) → TextTook p (text x ++ codes ", ") q → P found x → Stopped part text P close (found ++ x ∷ []) q at → Stopped part text P close found p at
   stopped_later found p at x q t good later =
       let front : List ℕ = text x ++ codes ", " in
       let rest : List ℕ = followed text later.parts in
@@ -93,8 +88,8 @@ module _ {X : Type 0} (part : List X → Reader ℕ X) (text : X → List ℕ) (
               | inr more ↦ elim (chosen (begins (codes ", ") x.1.rest) (parts_at part close n now (skip 2 x.1)) (Err x.1.at) (Err at) more.1) [
                 | inl comma ↦
                     let q : Place = skip 2 x.1 in
-                    let sep : Took x.1 (codes ", ") q = token_took (codes ", ") x.1 comma.0 in
-                    let all : Took p (text x.0 ++ codes ", ") q = took_then p (text x.0) x.1 (codes ", ") q one.0 sep in
+                    let sep : TextTook x.1 (codes ", ") q = token_took (codes ", ") x.1 comma.0 in
+                    let all : TextTook p (text x.0 ++ codes ", ") q = text_then p (text x.0) x.1 (codes ", ") q one.0 sep in
                     let left = took_fits p (text x.0 ++ codes ", ") q all fits in
                     let room : length q.rest ≤ n = omega (arith, ap length all.rest, length-append (text x.0 ++ codes ", ") q.rest, length-append (text x.0) (codes ", ")) in
                     stopped_later found p at x.0 q all one.1 (parts_stop n now q at left room comma.1)

@@ -13,11 +13,12 @@ use Rattle.diag_text.specs.Faulty.{Starts, Stands, HasTag, Begins, followed, Nei
 use Rattle.diag_text.proofs.Fronts.{starts_of, not_begins}
 use Rattle.diag_text.proofs.Texts.{pair_printed_out}
 use Rattle.diag_text.proofs.Loops.{member_is}
-use Rattle.diag_text.proofs.Takes.{Took, took_then, token_took, NumberTook}
+use Rattle.diag_text.proofs.Takes.{TextTook, text_then, token_took, NumberTook}
 use Rattle.diag_text.proofs.Again.{place, behind_again, digits_bracket, number_again, square as square_mark, curly as curly_mark}
 use Rattle.diag_text.proofs.Reread.{Law, each_member, each_pair, plain_is, item_again, spellable_front}
 use Rattle.diag_text.proofs.Level.{Level, level, scalar, nothing, square, curly, tagged, item_empty}
-use Rattle.diag_text.proofs.Halts.{behind_then, Halts, parts_halt}
+use Rattle.cbor_heads.proofs.Public.Places.{behind_then}
+use Rattle.diag_text.proofs.Halts.{Halts, parts_halt}
 
 -- what is faulty is refused by a reader
 abbrev pub RefusedBy : Reader ℕ Item → (Place → ℕ → Type 0) → Type 0
@@ -150,7 +151,7 @@ module _ (inner : Reader ℕ Item) (P : Item → Type 0) (F : Place → ℕ → 
 has_tag : (p : Place) (a : ℕ × Place) → NumberTook (2 ^ 64) p a → begins (codes "(") a.1.rest ≡ true → HasTag p.rest
 has_tag p a number here =
     let q : Place = skip 1 a.1 in
-    let front : Took p (decimal a.0 ++ codes "(") q = took_then p (decimal a.0) a.1 (codes "(") q number.took (token_took (codes "(") a.1 here) in
+    let front : TextTook p (decimal a.0 ++ codes "(") q = text_then p (decimal a.0) a.1 (codes "(") q number.took (token_took (codes "(") a.1 here) in
     record { number = a.0; small = number.below; stands = (q.rest, front.rest) }
 
 inside_nothing : (inner : Reader ℕ Item) (p : Place) (o : Outcome ℕ Item) → (Begins true p.rest → ⊥) → Level (Some inner) p o → o ≡ Err p.at

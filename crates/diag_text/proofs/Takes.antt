@@ -17,28 +17,28 @@ use Rattle.diag_text.proofs.Digits.{take_digits, no_digit_behind}
 -- ---- places
 
 -- a text stands between two places
-pub record Took (p : Place) (text : List ℕ) (q : Place) : Type 0 where
+pub record TextTook (p : Place) (text : List ℕ) (q : Place) : Type 0 where
   pub rest : p.rest ≡ text ++ q.rest
   pub at : q.at ≡ p.at + length text
 
-pub took_none : (p : Place) → Took p [] p
-took_none p = record { rest = refl; at = omega arith }
+pub text_none : (p : Place) → TextTook p [] p
+text_none p = record { rest = refl; at = omega arith }
 
-pub took_then : (p : Place) (x : List ℕ) (q : Place) (y : List ℕ) (r : Place) → Took p x q → Took q y r → Took p (x ++ y) r
-took_then p x q y r a b = record {
+pub text_then : (p : Place) (x : List ℕ) (q : Place) (y : List ℕ) (r : Place) → TextTook p x q → TextTook q y r → TextTook p (x ++ y) r
+text_then p x q y r a b = record {
   rest = a.rest ∙ ap (λ (t : List ℕ). x ++ t) b.rest ∙ sym (append_assoc x y r.rest);
   at = omega (arith, a.at, b.at, length-append x y);
 }
 
-pub took_fits : (p : Place) (text : List ℕ) (q : Place) → Took p text q → length p.rest < 2 ^ 64 → length q.rest < 2 ^ 64
+pub took_fits : (p : Place) (text : List ℕ) (q : Place) → TextTook p text q → length p.rest < 2 ^ 64 → length q.rest < 2 ^ 64
 took_fits p text q t fits = omega (arith, ap length t.rest, length-append text q.rest)
 
-pub token_took : (token : List ℕ) (p : Place) → begins token p.rest ≡ true → Took p token (skip (length token) p)
+pub token_took : (token : List ℕ) (p : Place) → begins token p.rest ≡ true → TextTook p token (skip (length token) p)
 token_took token p e = record { rest = begins_is token p.rest e; at = refl }
 
 -- what is read behind a token
 pub behind_took : {A : Type 0} (token : List ℕ) (p : Place) (f : Place → Outcome ℕ A) (x : A × Place) → past token p f ≡ Ok x
-    → Took p token (skip (length token) p) × (f (skip (length token) p) ≡ Ok x)
+    → TextTook p token (skip (length token) p) × (f (skip (length token) p) ≡ Ok x)
 behind_took token p f x e = let h = held (begins token p.rest) (f (skip (length token) p)) p.at x e in (token_took token p h.0, h.1)
 
 -- ---- bytes and characters
@@ -48,7 +48,7 @@ pub record Pieces (spell : ℕ → List ℕ) (guess : List ℕ → ℕ) (close :
   pub count : length bytes ≤ n
   pub fit : ((text : List ℕ) → guess text < 256) → IsBytes bytes
   pub all : x.0 ≡ found ++ bytes
-  pub took : Took p (flat_map spell bytes ++ close) x.1
+  pub took : TextTook p (flat_map spell bytes ++ close) x.1
 
 all_fit : (v : ℕ) (bytes : List ℕ) → v < 256 → IsBytes bytes → IsBytes (v ∷ bytes)
 all_fit v bytes small fit zero = small
@@ -74,7 +74,7 @@ pieces_take spell guess close at (suc n) found p x e =
             count = omega (arith, others.count);
             fit = λ small. all_fit v others.bytes (small p.rest) (others.fit small);
             all = others.all ∙ append_assoc found (v ∷ []) others.bytes;
-            took = subst (λ (t : List ℕ). Took p t x.1) text (took_then p (spell v) q (flat_map spell others.bytes ++ close) x.1 (token_took (spell v) p h.0) others.took);
+            took = subst (λ (t : List ℕ). TextTook p t x.1) text (text_then p (spell v) q (flat_map spell others.bytes ++ close) x.1 (token_took (spell v) p h.0) others.took);
           }
     ]
 
@@ -91,10 +91,10 @@ pub record Parts {X : Type 0} (text : X → List ℕ) (P : List X → X → Type
   pub all : x.0 ≡ found ++ first ∷ others
   pub count : length (first ∷ others) ≤ n
   pub each : Chain P found (first ∷ others)
-  pub took : Took p (listed text (first ∷ others) ++ close) x.1
+  pub took : TextTook p (listed text (first ∷ others) ++ close) x.1
 
 module _ {X : Type 0} (part : List X → Reader ℕ X) (text : X → List ℕ) (P : List X → X → Type 0) (close : List ℕ)
-    (law : (found : List X) (p : Place) (x : X × Place) → length p.rest < 2 ^ 64 → part found p ≡ Ok x → Took p (text x.0) x.1 × P found x.0) where
+    (law : (found : List X) (p : Place) (x : X × Place) → length p.rest < 2 ^ 64 → part found p ≡ Ok x → TextTook p (text x.0) x.1 × P found x.0) where
   pub parts_take : (n : ℕ) (found : List X) (p : Place) (x : List X × Place) → length p.rest < 2 ^ 64 → parts_at part close n found p ≡ Ok x → Parts text P close n found p x
   unfolding parts_at
   parts_take zero found p x fits e = absurd (not_ok p.at x e)
@@ -113,7 +113,7 @@ module _ {X : Type 0} (part : List X → Reader ℕ X) (text : X → List ℕ) (
               all = refl;
               count = omega arith;
               each = (one.1, tt);
-              took = subst (λ (t : List ℕ). Took p t (skip (length close) a.0.1)) last (took_then p (text a.0.0) a.0.1 close (skip (length close) a.0.1) one.0 (token_took close a.0.1 here.0));
+              took = subst (λ (t : List ℕ). TextTook p t (skip (length close) a.0.1)) last (text_then p (text a.0.0) a.0.1 close (skip (length close) a.0.1) one.0 (token_took close a.0.1 here.0));
             })
         | inr more ↦
             let sep = behind_took (codes ", ") a.0.1 (λ q. parts_at part close n now q) x more.1 in
@@ -127,7 +127,7 @@ module _ {X : Type 0} (part : List X → Reader ℕ X) (text : X → List ℕ) (
               all = others.all ∙ append_assoc found (a.0.0 ∷ []) (others.first ∷ others.others);
               count = omega (arith, others.count);
               each = (one.1, others.each);
-              took = subst (λ (t : List ℕ). Took p t x.1) flat (took_then p (text a.0.0) a.0.1 (codes ", " ++ (rest ++ close)) x.1 one.0 (took_then a.0.1 (codes ", ") (skip 2 a.0.1) (rest ++ close) x.1 sep.0 others.took));
+              took = subst (λ (t : List ℕ). TextTook p t x.1) flat (text_then p (text a.0.0) a.0.1 (codes ", " ++ (rest ++ close)) x.1 one.0 (text_then a.0.1 (codes ", ") (skip 2 a.0.1) (rest ++ close) x.1 sep.0 others.took));
             }
       ]
 
@@ -165,7 +165,7 @@ number_is limit ds n e = elim (cases_Bool (nat_lt (digits_value 10 ds) limit)) [
 
 -- a number that stood between two places, with all its digits
 pub record NumberTook (limit : ℕ) (p : Place) (x : ℕ × Place) : Type 0 where
-  pub took : Took p (decimal x.0) x.1
+  pub took : TextTook p (decimal x.0) x.1
   pub below : x.0 < limit
   pub ends : NoDigit x.1.rest
 
@@ -174,9 +174,9 @@ number_by_takes at limit p None x is e = absurd (not_ok at x e)
 number_by_takes at limit p (Some n) x is e =
     let number = number_is limit (digits p.rest) n is in
     let front : p.rest ≡ digits p.rest ++ drop (length (digits p.rest)) p.rest = sym (take-append-drop (length (digits p.rest)) p.rest) ∙ ap (λ (t : List ℕ). t ++ drop (length (digits p.rest)) p.rest) (take_digits p.rest) in
-    let took : Took p (digits p.rest) (skip (length (digits p.rest)) p) = record { rest = front; at = refl } in
+    let took : TextTook p (digits p.rest) (skip (length (digits p.rest)) p) = record { rest = front; at = refl } in
     subst (λ (y : ℕ × Place). NumberTook limit p y) (ok_is (n, skip (length (digits p.rest)) p) x e) (record {
-      took = subst (λ (t : List ℕ). Took p t (skip (length (digits p.rest)) p)) (sym number.text) took;
+      took = subst (λ (t : List ℕ). TextTook p t (skip (length (digits p.rest)) p)) (sym number.text) took;
       below = number.below;
       ends = no_digit_behind p.rest;
     })

@@ -12,7 +12,7 @@ use crate::one_time::sign_digest;
 use crate::params::KeyParams;
 use crate::secrets::TreeSecret;
 use base_types::OrMemory;
-use lms_core::message_hash;
+use lms_core::{Message, message_hash};
 
 /// A tree's secrets and all its nodes: node `r` stands at place `r`, and nothing of meaning at 0.
 #[derive(Drop)]
@@ -49,7 +49,8 @@ impl Tree {
         ensures value { OnOk result (bytes.new.items ≡ bytes.old.items ++ signature_bytes (tree_signature params self.now.secret leaf message.now)) }
     {
         let randomizer = self.secret.at(leaf, 0xfffd);
-        let digest = message_hash(&self.secret.identifier, leaf, &randomizer, message);
+        let parts = [message];
+        let digest = message_hash(&self.secret.identifier, leaf, &randomizer, &Message::new(&parts));
         bytes.extend_from_slice(&leaf.to_be_bytes())?;
         bytes.extend_from_slice(&params.ots_type().to_be_bytes())?;
         bytes.extend_from_slice(&randomizer)?;

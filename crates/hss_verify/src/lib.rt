@@ -3,7 +3,8 @@
 #![tactic(auto)]
 
 pub use public_key::HssPublic;
-pub use verify::hss_verify;
+pub use lms_core::Message;
+pub use verify::{hss_verify_message, hss_verify};
 
 mod public_key;
 #[cfg(test)]

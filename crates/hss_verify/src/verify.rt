@@ -6,7 +6,7 @@ ghost use Rattle.lms_core.specs.Layout.{IsFormed};
 ghost use Rattle.lms_core.specs.Lms.{LmsValid};
 
 use crate::public_key::HssPublic;
-use lms_core::{lms_has_form, lms_signature_len, lms_verify, read_u32};
+use lms_core::{Message, lms_has_form, lms_signature_len, lms_verify_message, lms_verify, read_u32};
 
 const LMS_PUBLIC_LEN: usize = 56;
 
@@ -18,6 +18,14 @@ const LMS_PUBLIC_LEN: usize = 56;
 pub fn hss_verify(public: &HssPublic, message: &[u8], signature: &[u8]) -> bool
     ensures { IsTrue result ↔ HssValid public.now message.now signature.now }
 {
+    let parts = [message];
+    hss_verify_message(public, &Message::new(&parts), signature)
+}
+
+/// The same of a message whose parts lie apart.
+pub fn hss_verify_message(public: &HssPublic, message: &Message<'_>, signature: &[u8]) -> bool
+    ensures { IsTrue result ↔ HssValid public.now message.now signature.now }
+{
     let key = public.bytes();
     let links = read_u32(&key, 0) - 1;
     signature.len() >= 4
@@ -27,7 +35,7 @@ pub fn hss_verify(public: &HssPublic, message: &[u8], signature: &[u8]) -> bool
 
 // Whether the bytes are so many signed public keys and a last signature, by which `key` signs the
 // message.
-fn is_signed(key: &[u8], links: u32, bytes: &[u8], message: &[u8]) -> bool
+fn is_signed(key: &[u8], links: u32, bytes: &[u8], message: &Message<'_>) -> bool
     ensures { IsTrue result ↔ IsChain LmsValid key.now links bytes.now message.now }
 {
     has_forms(key, links, bytes) && verifies(key, links, bytes, message)
@@ -50,11 +58,11 @@ fn has_forms(key: &[u8], links: u32, bytes: &[u8]) -> bool
 
 // Whether the bytes are a chain by which `key` signs the message, from the top, which stops at the
 // first key that is not validly signed: what is hashed stands under keys that are.
-fn verifies(key: &[u8], links: u32, bytes: &[u8], message: &[u8]) -> bool
+fn verifies(key: &[u8], links: u32, bytes: &[u8], message: &Message<'_>) -> bool
     ensures { IsTrue result ↔ IsChain LmsValid key.now links bytes.now message.now }
 {
     if links == 0 {
-        return lms_verify(key, message, bytes);
+        return lms_verify_message(key, message, bytes);
     }
     let Some(len) = first_len(key, bytes) else {
         return false;

@@ -1,5 +1,6 @@
 -- Parts of items, one behind the other: each row of a definition reads one, and hands its value to the rows behind it.
 use Rattle.std.specs.Prelude.{ℕ, ◌≤◌, ◌&&◌, nat_le, List, length, Option, Some, None, Result, Ok, Err, if◌then◌else◌}
+use Rattle.base_types.specs.Bytes.{IsBytes}
 use Rattle.cbor_core.specs.declared.item.Item.{Item}
 use Rattle.cbor_core.specs.declared.item.Pair.{Pair}
 use Rattle.cbor_core.specs.Views.{bytes_of, array_of, map_of}
@@ -17,9 +18,9 @@ within least most size bytes = if nat_le least (length bytes) && nat_le (length 
 abbrev pub sized : {E : Type 0} → ℕ → ℕ → E → E → Item → Result (List ℕ) E
 sized least most shape size x = and_then (within least most size) (or_fault shape (bytes_of x))
 
--- there are so many bytes
+-- these are bytes, and there are so many
 abbrev pub IsWithin : ℕ → ℕ → List ℕ → Type 0
-IsWithin least most bytes = (least ≤ length bytes) × (length bytes ≤ most)
+IsWithin least most bytes = IsBytes bytes × (least ≤ length bytes) × (length bytes ≤ most)
 
 -- a part, and then the others
 abbrev pub part : {V S E : Type 0} → (Item → Result V E) → Item → (V → Result S E) → Result S E

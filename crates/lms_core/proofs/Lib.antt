@@ -1,5 +1,4 @@
 pub mod Public
-pub mod Rows
 pub mod Sums
 pub mod Inputs
 pub mod Steps

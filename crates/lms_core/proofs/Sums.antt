@@ -4,7 +4,7 @@ use Rattle.std.proofs.lemmas.List.{append-nil, drop_at, take_at}
 use borrow.Rule.Slice.PartMut.{put_mid}
 use Rattle.lms_core.specs.declared.parameters.OtsParams.{OtsParams}
 use Rattle.lms_core.specs.Parameters.{IsOtsRow}
-use Rattle.lms_core.proofs.Rows.{sum_fits}
+use Rattle.lms_core.proofs.Public.Rows.{sum_fits}
 use Rattle.std.specs.Prelude.{sum_by}
 use Rattle.std.proofs.lemmas.List.FromFn.{sum_by-map-range_with_len_more}
 use Rattle.lms_core.specs.Digits.{checksum, coef, digits}

@@ -9,14 +9,16 @@
 pub use bytes::read_u32;
 pub use chains::{chain, chain_step};
 pub use digits::{checksum, coef, signed_string};
+pub use message::Message;
 pub use one_time::{key_hash, message_hash};
 pub use parameters::{OtsParams, lms_of, ots_of};
 pub use tree::{inner_hash, leaf_hash};
-pub use verify::{lms_has_form, lms_signature_len, lms_verify};
+pub use verify::{lms_has_form, lms_signature_len, lms_verify, lms_verify_message};
 
 mod bytes;
 mod chains;
 mod digits;
+mod message;
 mod one_time;
 mod parameters;
 mod public_key;

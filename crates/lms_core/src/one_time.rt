@@ -9,6 +9,7 @@ ghost use Rattle.lms_core.specs.Layout.{hashes_in};
 use crate::bytes::blank;
 use crate::chains::finish_all;
 use crate::digits::{coef, signed_string};
+use crate::message::Message;
 use crate::parameters::OtsParams;
 use sha2::{Digest, Sha256};
 
@@ -28,7 +29,7 @@ pub fn message_hash(
     identifier: &[u8; 16],
     q: u32,
     randomizer: &[u8; 32],
-    message: &[u8],
+    message: &Message<'_>,
 ) -> [u8; 32]
     ensures { result ≡ message_hash identifier.now q randomizer.now message.now }
 {
@@ -37,7 +38,7 @@ pub fn message_hash(
     hasher.update(q.to_be_bytes().as_slice());
     hasher.update(MESSAGE_DOMAIN.as_slice());
     hasher.update(randomizer.as_slice());
-    hasher.update(message);
+    message.add_to(&mut hasher);
     hasher.finalize()
 }
 

@@ -121,7 +121,11 @@ fn hashes(rt: HostRuntime) {
     assert_eq!(rt; key_hash(&IDENTIFIER, 9, &SEVENS), KEY);
     assert_eq!(rt; leaf_hash(&IDENTIFIER, 37, &SEVENS), LEAF);
     assert_eq!(rt; inner_hash(&IDENTIFIER, 18, &SEVENS, &counting()), INNER);
-    assert_eq!(rt; message_hash(&IDENTIFIER, 5, &SEVENS, b"TEEP"), DIGEST);
+    let parts: [&[u8]; 2] = [b"TE", b"EP"];
+    assert_eq!(rt;
+        message_hash(&IDENTIFIER, 5, &SEVENS, &Message::new(&parts)),
+        DIGEST
+    );
 }
 
 // A signature whose strings are all zero is valid under the root that it leads to.

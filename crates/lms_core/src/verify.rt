@@ -6,6 +6,7 @@ ghost use Rattle.lms_core.specs.Lms.{IsKnown, IsPublicKey, LmsValid, Spells, roo
 ghost use Rattle.lms_core.specs.Layout.{HasForm, IsFormed, chains_end, signature_at};
 
 use crate::bytes::{array_at, read_u32};
+use crate::message::Message;
 use crate::one_time::{key_candidate, message_hash};
 use crate::public_key::PublicKey;
 use crate::tree::{leaf_hash, root_above};
@@ -15,6 +16,14 @@ use crate::tree::{leaf_hash, root_above};
 /// where the signature has another length, other types than the key or no leaf of its tree, and
 /// where it leads to another root. Lengths and types are compared before anything is hashed.
 pub fn lms_verify(public: &[u8], message: &[u8], signature: &[u8]) -> bool
+    ensures { IsTrue result ↔ LmsValid public.now message.now signature.now }
+{
+    let parts = [message];
+    lms_verify_message(public, &Message::new(&parts), signature)
+}
+
+/// The same of a message whose parts lie apart.
+pub fn lms_verify_message(public: &[u8], message: &Message<'_>, signature: &[u8]) -> bool
     ensures { IsTrue result ↔ LmsValid public.now message.now signature.now }
 {
     let Some(key) = PublicKey::read(public) else {
@@ -75,7 +84,7 @@ fn has_form(key: &PublicKey, signature: &[u8]) -> bool
 }
 
 // Tc, the root that a signature of the message leads to (RFC 8554, 5.4.2, algorithm 6a).
-fn root_candidate(key: &PublicKey, message: &[u8], signature: &[u8]) -> [u8; 32]
+fn root_candidate(key: &PublicKey, message: &Message<'_>, signature: &[u8]) -> [u8; 32]
     requires known { IsKnown key.now }
     requires form { HasForm key.now signature.now }
     ensures { result ≡ root_candidate key.now message.now (signature_at key.now signature.now) }

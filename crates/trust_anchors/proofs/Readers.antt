@@ -170,28 +170,6 @@ none_refused x none faults.NoMemory h = absurd h
 pub none_bad : (x : Item) → NotTwo x → RefusedAs x faults.Shape
 none_bad x none = λ ms bs form. none ms bs form.array
 
--- ---- the signer
-
-pub signer_only : (keys : List (List ℕ)) (message signature : List ℕ) (r : Result ℕ SignFault) → SearchedAs keys message signature r → (at : ℕ) → FirstSigner keys message signature at → IsSigner r at
-signer_only keys m s (Ok n) h at first = first_one (λ key. ¬ (Signs m s key)) (Signs m s) (λ key wrong right. wrong right) keys n at h first
-signer_only keys m s (Err sign.NotSigned) h at first = first_none (λ key. ¬ (Signs m s key)) (Signs m s) (λ key wrong right. wrong right) keys at h first
-signer_only keys m s (Err sign.NoMemory) h at first = tt
-
--- the same search over what the arguments are
-searched : (keys keys' : List (List ℕ)) (m m' s s' : List ℕ) (r : Result ℕ SignFault) → keys ≡ keys' → m ≡ m' → s ≡ s' → SearchedAs keys m s r → SearchedAs keys' m' s' r
-searched keys keys' m m' s s' r e f g h =
-    subst (λ (ks : List (List ℕ)). SearchedAs ks m' s' r) e (subst (λ (t : List ℕ). SearchedAs keys t s' r) f (subst (λ (t : List ℕ). SearchedAs keys m t r) g h))
-
-pub verified_only : (keys keys' : List (List ℕ)) (m m' s s' : List ℕ) (r : Result ℕ SignFault) → keys ≡ keys' → m ≡ m' → s ≡ s' → SearchedAs keys m s r
-    → (at : ℕ) → FirstSigner keys' m' s' at → IsSigner r at
-verified_only keys keys' m m' s s' r e f g h = signer_only keys' m' s' r (searched keys keys' m m' s s' r e f g h)
-
-pub not_signed : (keys keys' : List (List ℕ)) (m m' s s' : List ℕ) (r : Result ℕ SignFault) → keys ≡ keys' → m ≡ m' → s ≡ s' → SearchedAs keys m s r
-    → r ≡ Err sign.NotSigned → (at : ℕ) → FirstSigner keys' m' s' at → ⊥
-not_signed keys keys' m m' s s' r e f g h is at first =
-    let none : IsSigner (Err sign.NotSigned) at = subst (λ (q : Result ℕ SignFault). IsSigner q at) is (verified_only keys keys' m m' s s' r e f g h at first) in
-    none
-
 -- ---- what is written
 
 strings : (keys : List (List ℕ)) (xs : List Item) → AllZip Wraps keys xs → AllByRecursion IsString xs

@@ -1,5 +1,5 @@
 -- Which anchor signed a message.
-use Rattle.std.specs.Prelude.{◌≡◌, ℕ, List, Result, Ok, Err}
+use Rattle.std.specs.Prelude.{◌≡◌, ◌⊎◌, ℕ, List, Result, Ok, Err}
 use Rattle.cose_core.specs.declared.sign1.Sign1.{Sign1}
 use Rattle.cose_core.specs.Signed.{signed_item}
 use Rattle.cbor_core.specs.Spelling.{spelling}
@@ -36,3 +36,7 @@ abbrev pub SearchedAs : List (List ℕ) → List ℕ → List ℕ → Result ℕ
 SearchedAs keys message signature (Ok at) = FirstSigner keys message signature at
 SearchedAs keys message signature (Err faults.NotSigned) = AllByRecursion (λ key. ¬ (Signs message signature key)) keys
 SearchedAs keys message signature (Err faults.NoMemory) = ⊥
+
+-- what the search answers where memory may run out
+abbrev pub SearchedOver : List (List ℕ) → List ℕ → List ℕ → Result ℕ SignFault → Type 0
+SearchedOver keys message signature result = SearchedAs keys message signature result ⊎ (result ≡ Err faults.NoMemory)

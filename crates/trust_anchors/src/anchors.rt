@@ -4,11 +4,11 @@ ghost use Rattle.std.specs.Prelude.{◌≡◌, ◌⊎◌, ◌↔◌, ◌≤◌, 
 use crate::fault::{AnchorFault, SignFault};
 use crate::reading::{are_strings, read_keys, two_arrays};
 use crate::role::Role;
-use crate::signers::first_signer;
+use crate::signers::signer_over;
 use crate::writing::write_keys;
 use base_types::{ANCHORS_LIMIT, List, OrMemory};
 use cbor_core::Item;
-use cose_core::{Sign1, signed_bytes};
+use cose_core::Sign1;
 use hss_verify::HssPublic;
 use std::alloc::Global;
 
@@ -114,8 +114,7 @@ impl Anchors {
         // NotSigned says that none did.
         ensures not_signed { IsErrOf result SignFault.NotSigned → (at : ℕ) → Verified self.now role message.now payload.now at → ⊥ }
     {
-        let signed = signed_bytes(alloc, message.protected.as_slice(), payload)?;
-        let keys = self.keys(role);
-        first_signer(keys, signed.as_slice(), message.signature.as_slice())
+        let signature = message.signature.as_slice();
+        signer_over(alloc, self.keys(role), message.protected.as_slice(), payload, signature)
     }
 }

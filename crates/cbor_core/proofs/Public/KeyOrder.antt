@@ -1,8 +1,8 @@
 -- The order of keys by their encodings.
-use Rattle.std.proofs.Common.{◌≡◌, ℕ, ◌+◌, ◌*◌, ◌%◌, ◌<◌, ◌≤◌, true, false, cond, List, [], ◌∷◌, ◌++◌, length, refl, ap, subst, ◌∙◌, arith, inl, inr}
+use Rattle.std.proofs.Common.{◌≡◌, ℕ, ◌+◌, ◌*◌, ◌%◌, ◌<◌, ◌≤◌, Bool, true, false, cond, List, [], ◌∷◌, ◌++◌, length, refl, ap, subst, ◌∙◌, arith, inl, inr}
 use Rattle.std.specs.Prelude.{nat_lt, ◌==◌}
 use Rattle.std.specs.Int.{to_be_bytes, w8, w16, w32, w64}
-use Rattle.std.proofs.lemmas.Bool.{cases_lt, le-ltb, lt-ltb, eq-eqb}
+use Rattle.std.proofs.lemmas.Bool.{cases_lt, le-ltb, lt-ltb, eq-eqb, ltb-true}
 use Rattle.cbor_core.specs.declared.item.Item.{Item, out-Item}
 use Rattle.cbor_core.specs.declared.item.Pair.{Pair}
 use Rattle.cbor_core.specs.declared.item.Item.TheOpen.{Item-F}
@@ -23,6 +23,16 @@ first_same a s t below =
     let not_less : nat_lt a a ≡ false = le-ltb a a (omega arith) in
     let same : (a == a) ≡ true = eq-eqb a a refl in
     rw (not_less, same) below
+
+-- bytes below one byte begin with a smaller one
+not_above : (first label : ℕ) (more : List ℕ) (b c : Bool) → nat_lt first label ≡ b → (first == label) ≡ c → bytes_below (first ∷ more) (label ∷ []) ≡ true → nat_lt first label ≡ true
+not_above first label more true c is same below = is
+not_above first label [] false true is same below = absurd (let h = rw (is, same) at below in cc)
+not_above first label (m ∷ ms) false true is same below = absurd (let h = rw (is, same) at below in cc)
+not_above first label more false false is same below = absurd (let h = rw (is, same) at below in cc)
+
+pub first_smaller : (first label : ℕ) (more : List ℕ) → bytes_below (first ∷ more) (label ∷ []) ≡ true → first < label
+first_smaller first label more below = ltb-true first label (not_above first label more (nat_lt first label) (first == label) refl refl below)
 
 -- heads of one major type ascend by the argument
 arguments_below : (major m n : ℕ) → m < n → n < 256 → bytes_below (head major m) (head major n) ≡ true

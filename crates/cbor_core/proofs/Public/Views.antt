@@ -1,11 +1,12 @@
 -- A view of an item tells which item it is.
-use Rattle.std.proofs.Common.{◌≡◌, ℕ, Bool, List, Option, Some, refl, sym, ap, ◌∙◌}
+use Rattle.std.proofs.Common.{◌≡◌, ℕ, Bool, true, List, Option, None, Some, refl, sym, ap, ◌∙◌}
+use Rattle.std.proofs.lemmas.Bool.{eqb-true, eq-eqb}
 use Rattle.cbor_core.specs.declared.item.Item.{Item, out-Item}
 use Rattle.cbor_core.specs.declared.item.Pair.{Pair}
 use Rattle.cbor_core.specs.declared.item.Item.TheOpen.{Item-F}
 use Rattle.cbor_core.specs.declared.item.Item.TheViews.{roll-Item, roll-out-Item}
 use Rattle.cbor_core.specs.declared.item.Item.TheVariants as i
-use Rattle.cbor_core.specs.Views.{unsigned_by, unsigned_of, bytes_by, bytes_of, text_by, text_of, truth_by, truth_of, array_by, array_of, map_by, map_of}
+use Rattle.cbor_core.specs.Views.{unsigned_by, unsigned_of, bytes_by, bytes_of, text_by, text_of, truth_by, truth_of, array_by, array_of, map_by, map_of, labelled_by}
 
 module _ {V : Type 0} (view : Item-F Item Pair → Option V) (item : V → Item) (rolled : (l : Item-F Item Pair) (v : V) → view l ≡ Some v → roll-Item l ≡ item v) where
   pub by_layer : (x : Item) (v : V) → view (out-Item x) ≡ Some v → x ≡ item v
@@ -69,3 +70,35 @@ same_bytes a b e = let both : Some a ≡ Some b = sym (bytes_back a) ∙ ap byte
 
 pub same_map : (ps qs : List Pair) → i.Map ps ≡ i.Map qs → ps ≡ qs
 same_map ps qs e = let both : Some ps ≡ Some qs = sym (map_back ps) ∙ ap map_of e ∙ map_back qs in cc
+
+-- ---- negative integers
+
+-- the number of a negative integer, by its layer
+abbrev pub negative_by : Item-F Item Pair → Option ℕ
+negative_by (Item-F.Negative n) = Some n
+negative_by _ = None
+
+-- the n of Negative(n), which is -1-n
+abbrev pub negative_of : Item → Option ℕ
+negative_of x = negative_by (out-Item x)
+
+negative_rolled : (l : Item-F Item Pair) (n : ℕ) → negative_by l ≡ Some n → roll-Item l ≡ i.Negative n
+negative_rolled (Item-F.Negative m) n e = let same : m ≡ n = cc in i.rolls-Negative m ∙ ap (λ (k : ℕ). i.Negative k) same
+negative_rolled _ n e = absurd cc
+
+pub negative_is : (x : Item) (n : ℕ) → negative_of x ≡ Some n → x ≡ i.Negative n
+negative_is x n e = by_layer negative_by (λ k. i.Negative k) negative_rolled x n e
+
+pub negative_back : (n : ℕ) → negative_of (i.Negative n) ≡ Some n
+negative_back n = rw i.outs-Negative refl
+
+-- ---- keys
+
+-- a label is its own key
+pub labelled_itself : (label : ℕ) → labelled_by label (out-Item (i.Unsigned label)) ≡ true
+labelled_itself label = rw i.outs-Unsigned (eq-eqb label label refl)
+
+-- a key under a label is that number
+pub key_is : (label : ℕ) (l : Item-F Item Pair) → labelled_by label l ≡ true → roll-Item l ≡ i.Unsigned label
+key_is label (Item-F.Unsigned n) is = i.rolls-Unsigned n ∙ ap (λ (k : ℕ). i.Unsigned k) (eqb-true n label is)
+key_is label _ is = absurd cc

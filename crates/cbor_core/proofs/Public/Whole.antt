@@ -1,7 +1,6 @@
 -- Bytes as a whole: one item that they spell, or one fault.
-use Rattle.std.proofs.Common.{◌≡◌, ℕ, ◌<◌, ◌≤◌, List, [], length, take, drop, Ok, Err, refl, sym, ap, subst, ◌∙◌, arith, ◌⊎◌, inl, inr}
-use Rattle.std.proofs.lemmas.Bool.{cases_lt}
-use Rattle.std.proofs.lemmas.List.{append-nil, take_at}
+use Rattle.std.proofs.Common.{◌≡◌, ℕ, ◌+◌, ◌<◌, ◌≤◌, List, [], ◌++◌, length, take, drop, Ok, Err, refl, sym, ap, subst, ◌∙◌, arith, ◌⊎◌, inl, inr}
+use Rattle.std.proofs.lemmas.List.{append-nil, take_at, take-append-drop, length-append, length-take}
 use Rattle.base_types.specs.Bytes.{IsBytes}
 use Rattle.cbor_heads.specs.declared.fault.Fault.{Fault}
 use Rattle.cbor_heads.specs.declared.fault.Why.{Why}
@@ -10,17 +9,21 @@ use Rattle.cbor_heads.specs.Place.{Place, start}
 use Rattle.cbor_heads.specs.Reading.{Outcome}
 use Rattle.cbor_heads.proofs.Public.Outcomes.{ok_is, err_is}
 use Rattle.cbor_core.specs.declared.item.Item.{Item}
-use Rattle.cbor_core.specs.Spelling.{Spells}
+use Rattle.cbor_core.specs.Spelling.{spelling, Spells}
 use Rattle.cbor_core.specs.Reading.{item_at}
-use Rattle.cbor_core.specs.Law.{SpellsFront, IsFaulty, IsFaultyWhole, HasExtra, OneItem, OneFault, OneItemWhole, OneFaultWhole, ExactlyOneWhole, OneForOne, SpelledInFront}
+use Rattle.cbor_core.specs.Law.{SpellsFront, IsFaulty, IsFaultyWhole, HasExtra, OneForOne, SpelledInFront}
 use Rattle.cbor_core.proofs.Refused.{item_refuses}
-use Rattle.cbor_core.proofs.Inputs as inputs
+use Rattle.cbor_core.proofs.Again.{item_again}
 
 -- ---- what the computing reader says
 
 -- what a front spells is read
 pub reads : (bytes : List ℕ) (x : Item) (n : ℕ) → n ≤ length bytes → Spells x (take n bytes) → item_at 16 (start bytes) ≡ Ok (x, record { at = n; rest = drop n bytes })
-reads = inputs.reads
+reads bytes x n le s =
+    let len : length (spelling x) ≡ n = ap length (sym s.spelled) ∙ omega (arith, length-take n bytes) in
+    let bytes_are : bytes ≡ spelling x ++ drop n bytes = sym (take-append-drop n bytes) ∙ ap (λ (t : List ℕ). t ++ drop n bytes) s.spelled in
+    let at : 0 + length (spelling x) ≡ n = omega arith in
+    ap (λ (t : List ℕ). item_at 16 (start t)) bytes_are ∙ item_again 16 x (s.proper, s.ranges) 0 (drop n bytes) ∙ ap (λ (k : ℕ). Ok (x, record { at = k; rest = drop n bytes })) at
 
 -- a fault is read
 pub refuses : (bytes : List ℕ) (f : Fault) → IsFaulty bytes f → item_at 16 (start bytes) ≡ Err f
@@ -28,19 +31,28 @@ refuses bytes f h = item_refuses 16 (start bytes) f h
 
 -- what spells an item is a front of itself
 pub whole_front : (bytes : List ℕ) (x : Item) → Spells x bytes → SpellsFront bytes x (length bytes)
-whole_front = inputs.whole_front
+whole_front bytes x s =
+    let all : take (length bytes) bytes ≡ bytes = ap (λ (t : List ℕ). take (length bytes) t) (sym (append-nil bytes)) ∙ take_at bytes [] (length bytes) refl in
+    (omega arith, record { proper = s.proper; ranges = s.ranges; spelled = all ∙ s.spelled })
 
 -- what the bytes spell is read
 pub reads_whole : (bytes : List ℕ) (x : Item) → Spells x bytes → item_at 16 (start bytes) ≡ Ok (x, record { at = length bytes; rest = drop (length bytes) bytes })
-reads_whole = inputs.reads_whole
+reads_whole bytes x s = let front = whole_front bytes x s in reads bytes x (length bytes) front.0 front.1
 
 -- ---- an item and its bytes
 
 pub spelled_in_front : SpelledInFront
-spelled_in_front = inputs.spelled_in_front
+spelled_in_front x bytes more s =
+    let front : take (length bytes) (bytes ++ more) ≡ bytes = take_at bytes more (length bytes) refl in
+    (omega (arith, length-append bytes more), record { proper = s.proper; ranges = s.ranges; spelled = front ∙ s.spelled })
 
 pub one_for_one : OneForOne
-one_for_one = inputs.one_for_one
+one_for_one = record {
+  one_item = λ x y bytes s t.
+      (let rest : Place = record { at = length bytes; rest = drop (length bytes) bytes } in
+      ap (λ (z : Item × Place). z.0) (ok_is (x, rest) (y, rest) (sym (reads_whole bytes x s) ∙ reads_whole bytes y t)));
+  one_spelling = λ x a b s t. (s.spelled ∙ sym t.spelled);
+}
 
 -- ---- an item or a fault
 
@@ -87,34 +99,3 @@ one_codec_fault bytes f g (inl h) (inl k) = err_is {A = Item × Place} f g (sym 
 one_codec_fault bytes f g (inl h) (inr k) = absurd (front_not_faulty bytes k.item g.at f k.front h)
 one_codec_fault bytes f g (inr h) (inl k) = absurd (front_not_faulty bytes h.item f.at g h.front k)
 one_codec_fault bytes f g (inr h) (inr k) = one_extra bytes f g h k
-
--- a fault of the whole, and no item
-faulty_whole : (bytes : List ℕ) (f : Fault) → IsFaultyWhole bytes f → OneFaultWhole bytes
-faulty_whole bytes f h = record {
-  first = f;
-  faulty = h;
-  alone = λ g k. one_codec_fault bytes g f k h;
-  no_item = λ x s. no_fault bytes x f s h;
-}
-
-item_whole : (bytes : List ℕ) (x : Item) → Spells x bytes → OneItemWhole bytes
-item_whole bytes x s = record {
-  item = x;
-  spelled = s;
-  alone = λ y t. one_for_one.one_item y x bytes t s;
-  no_fault = λ f h. no_fault bytes x f s h;
-}
-
-by_front : (bytes : List ℕ) → OneItem bytes ⊎ OneFault bytes → OneItemWhole bytes ⊎ OneFaultWhole bytes
-by_front bytes (inr one) = inr (faulty_whole bytes one.first (inl one.faulty))
-by_front bytes (inl one) = elim (cases_lt one.count (length bytes)) [
-  | inl more ↦ inr (faulty_whole bytes (record { at = one.count; why = why.Extra }) (inr (record { item = one.item; front = one.spelled; more = more; why = refl })))
-  | inr all ↦
-      let within : one.count ≤ length bytes = one.spelled.0 in
-      let n : one.count ≡ length bytes = omega arith in
-      let whole : take (length bytes) bytes ≡ bytes = ap (λ (t : List ℕ). take (length bytes) t) (sym (append-nil bytes)) ∙ take_at bytes [] (length bytes) refl in
-      inl (item_whole bytes one.item (subst (λ (t : List ℕ). Spells one.item t) (ap (λ (k : ℕ). take k bytes) n ∙ whole) one.spelled.1))
-]
-
-pub exactly_one_whole : ExactlyOneWhole
-exactly_one_whole bytes fits = by_front bytes (inputs.exactly_one bytes fits)

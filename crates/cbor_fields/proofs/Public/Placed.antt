@@ -10,6 +10,7 @@ use Rattle.cbor_core.specs.declared.item.Item.TheOpen.{Item-F}
 use Rattle.cbor_core.specs.declared.item.Item.TheVariants as i
 use Rattle.cbor_core.specs.Spelling.{Spells}
 use Rattle.cbor_core.specs.Views.{field, labelled_by}
+use Rattle.cbor_core.proofs.Public.Views.{labelled_itself}
 use Rattle.cbor_fields.specs.Views.{each_of, list_of, is_id, id_of, optional, is_among, is_other, others}
 use Rattle.cbor_fields.specs.Written.{decoded, labelled, is_below_by, is_below, put, put_if}
 use Rattle.cbor_fields.proofs.Ids.{id_value}
@@ -27,9 +28,6 @@ not_label : (label : ℕ) (l : Item-F Item Pair) → is_below_by label l ≡ tru
 not_label label (Item-F.Unsigned n) below = apart n label (n == label) refl (ltb-true n label below)
 not_label label _ below = absurd cc
 
-itself : (label : ℕ) → labelled_by label (out-Item (i.Unsigned label)) ≡ true
-itself label = rw i.outs-Unsigned (eq-eqb label label refl)
-
 another : (label other : ℕ) → (other == label) ≡ false → labelled_by label (out-Item (i.Unsigned other)) ≡ false
 another label other new = rw i.outs-Unsigned new
 
@@ -38,13 +36,13 @@ known labels label among = rw i.outs-Unsigned among
 
 -- what is put stands under its label
 pub put_found : (label : ℕ) (x : Item) (ps : List Pair) → field label (put label x ps) ≡ Some x
-put_found label x [] = rw (put_end label x, itself label) refl
+put_found label x [] = rw (put_end label x, labelled_itself label) refl
 put_found label x (p ∷ ps) = by_test (is_below label p) refl (put_found label x ps) where
   by_test : (b : Bool) → is_below label p ≡ b → field label (put label x ps) ≡ Some x → field label (put label x (p ∷ ps)) ≡ Some x
   by_test true below more =
       let other : labelled_by label (out-Item p.key) ≡ false = not_label label (out-Item p.key) below in
       rw (put_behind label x p ps below, other) more
-  by_test false above more = rw (put_here label x p ps above, itself label) refl
+  by_test false above more = rw (put_here label x p ps above, labelled_itself label) refl
 
 -- what stands under another label stays
 pub put_skipped : (label other : ℕ) (x : Item) (ps : List Pair) → (other == label) ≡ false → field label (put other x ps) ≡ field label ps

@@ -9,6 +9,7 @@ use Rattle.cbor_core.specs.declared.item.Item.TheViews.{roll-Item, roll-out-Item
 use Rattle.cbor_core.specs.declared.item.Item.TheVariants as i
 use Rattle.cbor_core.specs.Spelling.{spelling, KeysAscend}
 use Rattle.cbor_core.specs.Views.{field, labelled_by}
+use Rattle.cbor_core.proofs.Public.Views.{key_is}
 use Rattle.cbor_fields.specs.Views.{is_among, others}
 use Rattle.cbor_fields.specs.Written.{labelled, is_below_by, is_below, put}
 use Rattle.cbor_fields.proofs.Order.{IsPast, all_past}
@@ -60,10 +61,6 @@ put_first label labels x (p ∷ ps) all = by_test (is_among labels (out-Item p.k
 
 -- ---- one field put back
 
-key_is : (label : ℕ) (l : Item-F Item Pair) → labelled_by label l ≡ true → roll-Item l ≡ i.Unsigned label
-key_is label (Item-F.Unsigned n) is = i.rolls-Unsigned n ∙ ap (λ (k : ℕ). i.Unsigned k) (eqb-true n label is)
-key_is label _ is = absurd cc
-
 not_under : (label : ℕ) (l : Item-F Item Pair) → labelled_by label l ≡ true → is_below_by label l ≡ false
 not_under label (Item-F.Unsigned n) is = let e : n ≡ label = eqb-true n label is in le-ltb n label (omega arith)
 not_under label _ is = absurd cc
@@ -76,7 +73,8 @@ new_key : (label : ℕ) (labels : List ℕ) (l : Item-F Item Pair) → IsNew lab
 new_key label labels (Item-F.Unsigned n) new is = let e : n ≡ label = eqb-true n label is in rw e new
 new_key label labels _ new is = absurd cc
 
-pair_is : (label : ℕ) (p : Pair) → labelled_by label (out-Item p.key) ≡ true → labelled label p.value ≡ p
+-- the pair of a key under a label
+pub pair_is : (label : ℕ) (p : Pair) → labelled_by label (out-Item p.key) ≡ true → labelled label p.value ≡ p
 pair_is label p is =
     let key : i.Unsigned label ≡ p.key = sym (sym (roll-out-Item p.key) ∙ key_is label (out-Item p.key) is) in
     ap (λ (k : Item). record { key = k; value = p.value }) key

@@ -1,18 +1,23 @@
 -- Bytes are one COSE_Sign1, or have one refusal, and never both.
-use Rattle.std.proofs.Common.{◌≡◌, ◌⊎◌, ℕ, List, Result, Ok, Err, sym, ap, subst, inl, inr}
+use Rattle.std.proofs.Common.{◌≡◌, ◌⊎◌, ℕ, suc, List, Result, Ok, Err, Option, Some, None, sym, ap, subst, inl, inr}
+use Rattle.std.specs.Prelude.{IfSome}
+use Rattle.base_types.specs.Bytes.{IsBytes}
 use Rattle.cbor_core.specs.declared.item.Item.{Item}
 use Rattle.cbor_heads.specs.declared.fault.Fault.{Fault}
-use Rattle.cbor_core.specs.Spelling.{Spells}
+use Rattle.cbor_core.specs.declared.item.Item.TheVariants as i
+use Rattle.cbor_core.specs.Spelling.{Spells, HasRangesWithin}
 use Rattle.cbor_core.specs.Law.{IsFaultyWhole, OneFaultWhole}
 use Rattle.cose_core.specs.declared.sign1.Sign1.{Sign1}
 use Rattle.cose_core.specs.declared.fault.CoseFault.{CoseFault}
 use Rattle.cose_core.specs.declared.fault.CoseFault.TheVariants as faults
-use Rattle.cose_core.specs.Sign1.{untagged, tagged, Sign1Is, RefusedAs}
+use Rattle.cose_core.specs.Sign1.{payload_item, untagged, tagged, Sign1Is, RefusedAs}
 use Rattle.cose_core.specs.Reading.{ReadAs}
 use Rattle.cose_core.specs.Law.{ExactlyOne, OneEnvelope}
 use Rattle.cose_core.proofs.Forms.{form_at}
 use Rattle.cose_core.proofs.Sign1s.{is_found, is_bad, is_only, is_refused}
-use Rattle.cbor_core.proofs.Public.Whole.{exactly_one_whole, no_fault}
+use Rattle.cbor_core.proofs.Public.ExactlyOne.{exactly_one_whole}
+use Rattle.cbor_core.proofs.Public.Whole.{no_fault}
+use Rattle.cbor_core.proofs.Public.Ranges.{bytes_within}
 use Rattle.cose_core.proofs.There.{answered}
 
 -- the item that the bytes spell
@@ -73,4 +78,20 @@ pub envelope_or_refused : OneEnvelope
 envelope_or_refused bytes are = elim (exactly_one_whole bytes are) [
   | inl one ↦ (let a = answered one.item one.spelled.ranges in by_item bytes one.item a.result one.spelled one.no_fault a.answers a.not_memory)
   | inr fails ↦ by_fault bytes fails
+]
+
+-- ---- the payload
+
+in_payload : (d : ℕ) (o : Option (List ℕ)) → HasRangesWithin d (payload_item o) → IfSome o IsBytes
+in_payload d None r = tt
+in_payload d (Some bytes) r = bytes_within d bytes r
+
+in_parts : (d : ℕ) (v : Sign1) → HasRangesWithin (suc d) (untagged v) → IfSome v.payload IsBytes
+in_parts d v r = let level = rw i.outs-Array at r in in_payload d v.payload level.0.1.1.0
+
+-- a payload of bytes is bytes
+pub payload_is_bytes : (bytes : List ℕ) (v : Sign1) → Sign1Is v bytes → IfSome v.payload IsBytes
+payload_is_bytes bytes v is = elim is.form.spelled [
+  | inl plain ↦ in_parts 15 v plain.ranges
+  | inr with_tag ↦ (let level = rw i.outs-Tag at with_tag.ranges in in_parts 14 v level.0)
 ]

@@ -1,7 +1,7 @@
 //! A plain signer over trees of height 5, whose keys come from a seed (RFC 8554, appendix A).
 
 use lms_core::{
-    chain, chain_step, coef, inner_hash, leaf_hash, message_hash, ots_of, signed_string,
+    chain, chain_step, coef, inner_hash, leaf_hash, message_hash, Message, ots_of, signed_string,
 };
 use sha2::{Digest, Sha256};
 use std::alloc::{AllocError, Global};
@@ -52,7 +52,8 @@ impl Tree {
         bytes.extend_from_slice(&q.to_be_bytes())?;
         bytes.extend_from_slice(&self.ots_type.to_be_bytes())?;
         bytes.extend_from_slice(&randomizer)?;
-        let digest = message_hash(&self.identifier, q, &randomizer, message);
+        let parts = [message];
+        let digest = message_hash(&self.identifier, q, &randomizer, &Message::new(&parts));
         self.sign_digest(&mut bytes, leaf, &digest)?;
         bytes.extend_from_slice(&LMS_TYPE.to_be_bytes())?;
         let mut node = 32 + leaf % LEAVES;

@@ -7,7 +7,8 @@ use Rattle.cbor_heads.specs.declared.fault.Fault.{Fault}
 use Rattle.cbor_core.specs.Spelling.{Spells}
 use Rattle.base_types.specs.Bytes.{IsBytes}
 use Rattle.cbor_core.specs.Law.{SpellsFront, IsFaultyWhole}
-use Rattle.cbor_core.proofs.Public.Whole.{exactly_one_whole, one_for_one, reads, refuses, whole_front}
+use Rattle.cbor_core.proofs.Public.ExactlyOne.{exactly_one_whole}
+use Rattle.cbor_core.proofs.Public.Whole.{one_for_one, reads, refuses, whole_front}
 use Rattle.cbor_core.specs.Views.{bytes_of}
 use Rattle.item_codec.specs.Wrapped.{alone, read_whole, item_in, unwrapped}
 

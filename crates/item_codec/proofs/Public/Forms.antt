@@ -1,10 +1,11 @@
 -- Forms of one fault as parts, and codecs as forms.
-use Rattle.std.proofs.Common.{◌≡◌, ℕ, Bool, true, false, cond, List, [], ◌∷◌, length, Option, Some, None, map, refl, ap, ◌∙◌, inl, inr}
+use Rattle.std.proofs.Common.{◌≡◌, ℕ, ◌≤◌, Bool, true, false, cond, List, [], ◌∷◌, length, Option, Some, None, map, refl, ap, subst, ◌∙◌, inl, inr}
 use Rattle.std.specs.Prelude.{Result, Ok, Err, IfSome, nat_le, ◌&&◌}
 use Rattle.std.specs.List.{AllByRecursion}
 use Rattle.std.proofs.lemmas.Bool.{leb-true, le-leb}
 use Rattle.cbor_core.specs.declared.item.Item.{Item}
 use Rattle.cbor_core.specs.declared.item.Item.TheVariants as i
+use Rattle.cbor_core.specs.Spelling.{HasRanges}
 use Rattle.cbor_core.specs.Views.{unsigned_of, bytes_of, text_of, truth_of}
 use Rattle.cbor_fields.specs.declared.fault.FormFault.{FormFault}
 use Rattle.cbor_fields.specs.declared.fault.FormFault.TheVariants.{Shape, NoMemory}
@@ -12,6 +13,7 @@ use Rattle.cbor_fields.specs.Reads.{ReadsForm as Reads}
 use Rattle.cbor_fields.specs.Views.{list_of}
 use Rattle.cbor_fields.proofs.Public.Forms.{unsigned_determines, bytes_determines, text_determines, truth_determines, list_determines}
 use Rattle.cbor_core.proofs.Public.Views.{bytes_is}
+use Rattle.cbor_core.proofs.Public.Ranges.{bytes_in_range}
 use Rattle.cbor_fields.proofs.Public.Values.{list_gives}
 use Rattle.cbor_fields.proofs.Public.Placed.{list_seen}
 use Rattle.item_codec.specs.Answers.{and_then, or_fault, value_of, Answers, IsSettled}
@@ -85,21 +87,21 @@ module _ {E : Type 0} (none : E) (least most : ℕ) (shape size : E) (told_shape
   by_test true b = tt
   by_test false b = told_size
 
-  by_tests : (low high : Bool) (b c : List ℕ) → nat_le least (length b) ≡ low → nat_le (length b) most ≡ high → cond (low && high) (Ok b) (Err size) ≡ Ok c → (b ≡ c) × IsWithin least most b
-  by_tests true true b c is_low is_high e = (cc, (leb-true least (length b) is_low, leb-true (length b) most is_high))
+  by_tests : (low high : Bool) (b c : List ℕ) → nat_le least (length b) ≡ low → nat_le (length b) most ≡ high → cond (low && high) (Ok b) (Err size) ≡ Ok c → (b ≡ c) × (least ≤ length b) × (length b ≤ most)
+  by_tests true true b c is_low is_high e = (cc, leb-true least (length b) is_low, leb-true (length b) most is_high)
   by_tests true false b c is_low is_high e = absurd cc
   by_tests false high b c is_low is_high e = absurd cc
 
-  by_bytes : (x : Item) (c : List ℕ) (o : Option (List ℕ)) → bytes_of x ≡ o → and_then (within least most size) (or_fault shape o) ≡ Ok c → (x ≡ i.Bytes c) × IsWithin least most c
+  by_bytes : (x : Item) (c : List ℕ) (o : Option (List ℕ)) → bytes_of x ≡ o → and_then (within least most size) (or_fault shape o) ≡ Ok c → (x ≡ i.Bytes c) × (least ≤ length c) × (length c ≤ most)
   by_bytes x c None at e = absurd cc
   by_bytes x c (Some b) at e =
       let p = by_tests (nat_le least (length b)) (nat_le (length b) most) b c refl refl e in
-      (bytes_is x b at ∙ ap (λ (t : List ℕ). i.Bytes t) p.0, rw (← p.0) p.1)
+      (bytes_is x b at ∙ ap (λ (t : List ℕ). i.Bytes t) p.0, rw (← p.0) p.1, rw (← p.0) p.2)
 
   has_size : (b : List ℕ) → IsWithin least most b → within least most size b ≡ Ok b
   has_size b is =
-      let low : nat_le least (length b) ≡ true = le-leb least (length b) is.0 in
-      let high : nat_le (length b) most ≡ true = le-leb (length b) most is.1 in
+      let low : nat_le least (length b) ≡ true = le-leb least (length b) is.1 in
+      let high : nat_le (length b) most ≡ true = le-leb (length b) most is.2 in
       rw (low, high) refl
 
   pub sized_part : Part none (sized least most shape size) (λ b. i.Bytes b) (IsWithin least most)
@@ -107,7 +109,7 @@ module _ {E : Type 0} (none : E) (least most : ℕ) (shape size : E) (told_shape
     settled = λ x. then_settled none (within least most size) (or_fault shape (bytes_of x)) (fault_settled none shape told_shape (bytes_of x))
         (λ b. by_test (nat_le least (length b) && nat_le (length b) most) b);
     fixes = λ x b s e. (let p = by_bytes x b (bytes_of x) refl e in p.0);
-    proper = λ x b s e. (let p = by_bytes x b (bytes_of x) refl e in p.1);
+    proper = λ x b s e. (let p = by_bytes x b (bytes_of x) refl e in (bytes_in_range b (subst HasRanges p.0 s.ranges), p.1, p.2));
     seen = λ b is. rw i.outs-Bytes (has_size b is);
   }
 

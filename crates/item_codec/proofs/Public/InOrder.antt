@@ -11,23 +11,15 @@ use Rattle.cbor_core.specs.Spelling.{spelling, bytes_below, KeysAscend}
 use Rattle.cbor_heads.specs.Head.{head}
 use Rattle.cbor_core.specs.Views.{labelled_by}
 use Rattle.cbor_core.proofs.Public.Spell.{spelling_Unsigned}
+use Rattle.cbor_core.proofs.Public.KeyOrder.{first_smaller}
 use Rattle.cbor_heads.proofs.Public.Heads.{head_short, head_8}
 use Rattle.cbor_fields.specs.Views.{is_among}
 use Rattle.item_codec.specs.Answers.{and_then, mapped}
 use Rattle.item_codec.specs.Ordered.{field, no_more}
 use Rattle.item_codec.specs.InOrder.{refusal, Check, at_number, judge_by, judge, or_later, first_refused}
-use Rattle.item_codec.proofs.Public.Ordered.{key_is}
+use Rattle.cbor_core.proofs.Public.Views.{key_is}
 
 -- ---- keys that ascend
-
-not_above : (first label : ℕ) (more : List ℕ) (b c : Bool) → nat_lt first label ≡ b → (first == label) ≡ c → bytes_below (first ∷ more) (label ∷ []) ≡ true → nat_lt first label ≡ true
-not_above first label more true c is same below = is
-not_above first label [] false true is same below = absurd (let h = rw (is, same) at below in cc)
-not_above first label (m ∷ ms) false true is same below = absurd (let h = rw (is, same) at below in cc)
-not_above first label more false false is same below = absurd (let h = rw (is, same) at below in cc)
-
-first_smaller : (first label : ℕ) (more : List ℕ) → bytes_below (first ∷ more) (label ∷ []) ≡ true → first < label
-first_smaller first label more below = ltb-true first label (not_above first label more (nat_lt first label) (first == label) refl refl below)
 
 behind_first : (a : ℕ) (s t : List ℕ) → bytes_below (a ∷ s) (a ∷ t) ≡ true → bytes_below s t ≡ true
 behind_first a s t below =

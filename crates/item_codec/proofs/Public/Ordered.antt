@@ -12,7 +12,8 @@ use Rattle.cbor_core.specs.Views.{labelled_by, map_of}
 use Rattle.cbor_fields.specs.Views.{behind_key}
 use Rattle.cbor_fields.specs.Written.{IsSpelled, labelled}
 use Rattle.cbor_fields.proofs.Public.Spelled.{pairs_spelled}
-use Rattle.cbor_core.proofs.Public.Views.{map_is}
+use Rattle.cbor_fields.proofs.Public.Puts.{pair_is}
+use Rattle.cbor_core.proofs.Public.Views.{map_is, labelled_itself}
 use Rattle.item_codec.specs.Answers.{and_then, mapped, or_fault, IsSettled}
 use Rattle.item_codec.specs.Part.{Part}
 use Rattle.item_codec.specs.Fields.{optional_at, needed_at, in_map}
@@ -20,9 +21,6 @@ use Rattle.item_codec.specs.Ordered.{first_item, taken, field, taken_needed, nee
 use Rattle.item_codec.proofs.Public.Settled.{fault_settled, then_settled, optional_settled, needed_settled}
 
 -- ---- keys
-
-itself : (label : ℕ) → labelled_by label (out-Item (i.Unsigned label)) ≡ true
-itself label = rw i.outs-Unsigned (eq-eqb label label refl)
 
 -- the key is a number above the label
 abbrev pub above_by : ℕ → Item-F Item Pair → Bool
@@ -53,15 +51,6 @@ same_behind label (p ∷ ps) above = rw (other_key label (out-Item p.key) above)
 higher : (label other : ℕ) (l : Item-F Item Pair) → label < other → above_by other l ≡ true → above_by label l ≡ true
 higher label other (Item-F.Unsigned n) lt is = let h : other < n = ltb-true other n is in lt-ltb label n (omega arith)
 higher label other _ lt is = absurd cc
-
-pub key_is : (label : ℕ) (l : Item-F Item Pair) → labelled_by label l ≡ true → roll-Item l ≡ i.Unsigned label
-key_is label (Item-F.Unsigned n) is = i.rolls-Unsigned n ∙ ap (λ (k : ℕ). i.Unsigned k) (eqb-true n label is)
-key_is label _ is = absurd cc
-
-pair_is : (label : ℕ) (p : Pair) → labelled_by label (out-Item p.key) ≡ true → p ≡ labelled label p.value
-pair_is label p is =
-    let key : p.key ≡ i.Unsigned label = sym (roll-out-Item p.key) ∙ key_is label (out-Item p.key) is in
-    ap (λ (k : Item). record { key = k; value = p.value }) key
 
 -- ---- what was read
 
@@ -95,7 +84,7 @@ record NeededRead {V S E : Type 0} (item : V → Item) (P : V → Type 0) (label
 
 row_is : {V E : Type 0} {none : E} {view : Item → Result V E} {item : V → Item} {P : V → Type 0} (part : Part none view item P) (label : ℕ) (p : Pair) (ps : List Pair) (v : V)
     → labelled_by label (out-Item p.key) ≡ true → IsSpelled p.value → view p.value ≡ Ok v → p ∷ ps ≡ labelled label (item v) ∷ ps
-row_is part label p ps v is s at = ap (λ (q : Pair). q ∷ ps) (pair_is label p is ∙ ap (labelled label) (part.fixes p.value v s at))
+row_is part label p ps v is s at = ap (λ (q : Pair). q ∷ ps) (sym (pair_is label p is) ∙ ap (labelled label) (part.fixes p.value v s at))
 
 module _ {V S E : Type 0} {none : E} {view : Item → Result V E} {item : V → Item} {P : V → Type 0} (part : Part none view item P) (label : ℕ) where
   module _ (others : Option V → List Pair → Result S E) (value : S) where
@@ -186,7 +175,7 @@ module _ {V S E : Type 0} {none : E} {view : Item → Result V E} {item : V → 
     -- the first row, of an optional field
     pub first_row : (o : Option V) → IfSome o P → RowsRead label (others o) ps value → field view label (row item label o ps) others ≡ Ok value
     first_row None is more = rw (no_item label ps more.above, same_behind label ps more.above) more.reads
-    first_row (Some v) is more = rw (itself label, part.seen v is) more.reads
+    first_row (Some v) is more = rw (labelled_itself label, part.seen v is) more.reads
 
     row_above : (lower : ℕ) → nat_lt lower label ≡ true → (o : Option V) (qs : List Pair) → IsAbove label qs → IsAbove lower (row item label o qs)
     row_above lower lt None [] above = tt
@@ -201,7 +190,7 @@ module _ {V S E : Type 0} {none : E} {view : Item → Result V E} {item : V → 
   module _ (missing : E) (others : V → List Pair → Result S E) (v : V) (ps : List Pair) (value : S) (is : P v) where
     -- the first row, of a field that must be there
     pub first_needed : RowsRead label (others v) ps value → needed view missing label (needed_row item label v ps) others ≡ Ok value
-    first_needed more = rw (itself label, part.seen v is) more.reads
+    first_needed more = rw (labelled_itself label, part.seen v is) more.reads
 
     -- such a row behind a label
     pub next_needed : (lower : ℕ) → nat_lt lower label ≡ true → RowsRead label (others v) ps value → RowsRead lower (λ qs. needed view missing label qs others) (needed_row item label v ps) value

@@ -7,7 +7,8 @@ use Rattle.cbor_heads.specs.declared.fault.Fault.{Fault}
 use Rattle.cbor_core.specs.Spelling.{Spells, spelling, IsProper, HasRanges}
 use Rattle.base_types.specs.Bytes.{IsBytes}
 use Rattle.cbor_core.specs.Law.{IsFaultyWhole}
-use Rattle.cbor_core.proofs.Public.Whole.{exactly_one_whole, no_fault}
+use Rattle.cbor_core.proofs.Public.ExactlyOne.{exactly_one_whole}
+use Rattle.cbor_core.proofs.Public.Whole.{no_fault}
 use Rattle.cbor_fields.specs.Written.{IsSpelled}
 use Rattle.item_codec.specs.Answers.{Answers, IsAnswer, IsSettled}
 use Rattle.item_codec.specs.Part.{Part}

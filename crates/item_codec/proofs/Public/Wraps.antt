@@ -5,20 +5,17 @@ use Rattle.cbor_core.specs.declared.item.Item.{Item, out-Item}
 use Rattle.cbor_core.specs.declared.item.Item.TheOpen.{Item-F}
 use Rattle.cbor_core.specs.declared.item.Item.TheVariants as i
 use Rattle.cbor_core.specs.declared.item.Pair.{Pair}
-use Rattle.cbor_core.specs.Spelling.{spelling, Spells, IsInRangeBy, HasRangesWithin}
+use Rattle.cbor_core.specs.Spelling.{spelling, Spells, HasRanges}
 use Rattle.base_types.specs.Bytes.{IsBytes}
 use Rattle.cbor_core.specs.Views.{bytes_by, bytes_of}
 use Rattle.cbor_fields.specs.Written.{IsSpelled}
 use Rattle.cbor_core.proofs.Public.Views.{bytes_is}
+use Rattle.cbor_core.proofs.Public.Ranges.{bytes_in_range}
 use Rattle.item_codec.specs.Answers.{and_then, or_fault}
 use Rattle.item_codec.specs.Part.{Part}
 use Rattle.item_codec.specs.Wrapped.{item_in, unwrapped, wrapped, wrap, IsWrappable}
 use Rattle.item_codec.proofs.Public.Settled.{fault_settled, then_settled}
 use Rattle.item_codec.proofs.Public.Decoded.{item_is, item_spells}
-
-ranges_by : (l : Item-F Item Pair) (bytes : List ℕ) → IsInRangeBy (HasRangesWithin 15) l → bytes_by l ≡ Some bytes → IsBytes bytes
-ranges_by (Item-F.Bytes b) bytes r e = let same : b ≡ bytes = cc in subst IsBytes same r.0
-ranges_by _ bytes r e = absurd cc
 
 module _ {V E : Type 0} {none : E} {view : Item → Result V E} {item : V → Item} {P : V → Type 0} (part : Part none view item P) (fault : E) (told : fault ≡ none → ⊥) where
   -- what was read of the byte string x: the item y that it wraps, with the value
@@ -31,7 +28,7 @@ module _ {V E : Type 0} {none : E} {view : Item → Result V E} {item : V → It
 
   by_item : (x : Item) (v : V) (bytes : List ℕ) → IsSpelled x → bytes_of x ≡ Some bytes → (o : Option Item) → item_in bytes ≡ o → and_then view (or_fault fault o) ≡ Ok v → Content x v
   by_item x v bytes s at None in_bytes e = absurd cc
-  by_item x v bytes s at (Some y) in_bytes e = record { content = y; bytes = bytes; at = at; spelled = item_spells bytes y (ranges_by (out-Item x) bytes s.ranges at) in_bytes; is = e }
+  by_item x v bytes s at (Some y) in_bytes e = record { content = y; bytes = bytes; at = at; spelled = item_spells bytes y (bytes_in_range bytes (subst HasRanges (bytes_is x bytes at) s.ranges)) in_bytes; is = e }
 
   by_bytes : (x : Item) (v : V) → IsSpelled x → (o : Option (List ℕ)) → bytes_of x ≡ o → and_then view (and_then (λ bytes. or_fault fault (item_in bytes)) (or_fault fault o)) ≡ Ok v → Content x v
   by_bytes x v s None at e = absurd cc

@@ -1,4 +1,4 @@
-use Rattle.cbor_core.proofs.Inputs.{spelled_in_front}
+use Rattle.cbor_core.proofs.Public.Whole.{spelled_in_front}
 use Rattle.cbor_core.proofs.laws.spelled_in_front.Goals as goal
 
 pub returns : goal.returns

@@ -1,4 +1,4 @@
-use Rattle.std.proofs.Common.{arith, refl, ap, ◌∙◌, length, drop}
+use Rattle.std.proofs.Common.{arith, refl, ap, length, drop}
 use Rattle.std.proofs.lemmas.List.{length-append}
 use Rattle.cbor_core.specs.Spelling.{spelling}
 use Rattle.cbor_core.proofs.Written.{leaf_Unsigned, leaf_Negative, leaf_Bytes, leaf_Text, leaf_Truth, leaf_Null, writes_Array, writes_Map, writes_Tag, next_pair, pairs_more}

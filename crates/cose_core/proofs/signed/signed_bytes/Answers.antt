@@ -1,13 +1,20 @@
-use Rattle.std.proofs.Common.{List, ℕ, refl, sym, subst}
-use Rattle.cbor_core.specs.Spelling.{Spells}
+use Rattle.std.proofs.Common.{Result, Ok, Err, List, ℕ, ◌<◌, ◌^◌, ◌≡◌, length, sym, ◌∙◌, arith}
+use Rattle.std.specs.Prelude.{IfOk}
+use Rattle.base_types.specs.Bytes.{IsBytes}
+use Rattle.base_types.specs.declared.memory.NoMemory.{NoMemory}
+use Rattle.cbor_core.specs.Spelling.{Spells, spelling}
 use Rattle.cose_core.specs.Signed.{signed_item}
 use Rattle.cose_core.proofs.Written.{signed_spelled}
 use Rattle.cose_core.proofs.signed.signed_bytes.Goals as goal
 
+spelled : (protected payload whole : List ℕ) (result : Result (List ℕ) NoMemory) → IsBytes protected → length protected < 2 ^ 64 → IsBytes payload → length payload < 2 ^ 64
+    → whole ≡ spelling (signed_item protected payload) → IfOk result (λ bytes. bytes ≡ whole) → IfOk result (λ bytes. Spells (signed_item protected payload) bytes)
+spelled protected payload whole (Ok bytes) are len payload_are payload_len joined is = signed_spelled protected payload bytes are len payload_are payload_len (is ∙ joined)
+spelled protected payload whole (Err e) are len payload_are payload_len joined is = tt
+
 pub returns : goal.returns
-returns c =
-    let spelled = signed_spelled c.args.protected.now c.args.payload.now _ _ c.new-out.result c.array.new.self c.text.new.self c.bytes.new.self c.bytes-2.new.self c.bytes-3.new.self
-    c.new-out.ensures c.in_ok-array.ensures.written refl c.text.ensures.range c.text.ensures.len c.in_ok-text.ensures.written
-    c.bytes.ensures.range c.bytes.ensures.len c.in_ok-bytes.ensures.written refl c.bytes-2.ensures.range c.bytes-2.ensures.len c.in_ok-bytes-2.ensures.written
-    c.bytes-3.ensures.range c.bytes-3.ensures.len c.in_ok-bytes-3.ensures.written in
-    record { spelled = subst (λ (bytes : List ℕ). Spells (signed_item c.args.protected.now c.args.payload.now) bytes) (sym c.into_octets.ensures) spelled }
+returns c = record {
+  spelled =
+      spelled c.args.protected.now c.args.payload.now _ c.round.result (λ i. omega (arith, c.type_inv.protected i)) c.in_ok-heads.ensures.few.0 (λ i. omega (arith, c.type_inv.payload i)) c.in_ok-heads.ensures.few.1
+      c.in_ok-heads.ensures.joined c.round.ensures;
+}

@@ -1,6 +1,6 @@
 use Rattle.std.proofs.Common.{◌≡◌, ℕ, ◌-◌, ◌*◌, ◌%◌, ◌^◌, ap, ◌∙◌, arith}
 use Rattle.lms_core.specs.OneTime.{key_hash}
-use Rattle.lms_core.proofs.Rows.{shifted_one, width_of_row}
+use Rattle.lms_core.proofs.Public.Rows.{shifted_one, width_of_row}
 use Rattle.hss_sign.specs.Trees.{end_of_chain, one_time_public}
 use Rattle.hss_sign.proofs.Joined.{chain_told, written_more}
 use Rattle.hss_sign.proofs.one_time.one_time_public.Goals as goal

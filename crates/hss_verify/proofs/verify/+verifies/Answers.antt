@@ -19,7 +19,7 @@ returns-then-lms_verify t c =
       λ yes. chained LmsValid c.args.key.now c.args.links c.args.bytes.now c.args.message.now some
           (linked_from LmsValid c.args.key.now c.args.links c.in-Some.len c.args.bytes.now c.args.message.now (record {
             room = c.in-Some.ensures.room;
-            valid = c.lms_verify-2.ensures.0 c.if-lms_verify.true;
+            valid = c.lms_verify.ensures.0 c.if-lms_verify.true;
             more = c.verifies.ensures.0 yes;
           })),
       λ chain. c.verifies.ensures.1
@@ -30,6 +30,6 @@ pub returns-else-lms_verify : goal.returns-else-lms_verify
 returns-else-lms_verify t c =
     let some : 0 < c.args.links = omega arith in (
       λ yes. absurd (cc),
-      λ chain. c.lms_verify-2.ensures.1
+      λ chain. c.lms_verify.ensures.1
           (link_read LmsValid valid_is_formed c.args.key.now c.args.links c.in-Some.len c.args.bytes.now c.args.message.now c.in-Some.ensures.only some chain).valid,
     )

@@ -1,6 +1,6 @@
 use Rattle.std.proofs.Common.{◌≡◌, ◌+◌, ◌-◌, ◌/◌, ◌^◌, sym, ◌∙◌, ap, arith}
 use Rattle.lms_core.specs.Digits.{coef}
-use Rattle.lms_core.proofs.Rows.{width_of_row, shifted_one}
+use Rattle.lms_core.proofs.Public.Rows.{width_of_row, shifted_one}
 use Rattle.lms_core.proofs.Sums.{shortfall_more, bound_more, checksum_is}
 use Rattle.lms_core.proofs.digits.checksum.Goals as goal
 

@@ -3,7 +3,7 @@ use Rattle.std.proofs.lemmas.List.{get_or-take, length-take-le}
 use Rattle.lms_core.specs.Digits.{coef, signed_string}
 use Rattle.lms_core.specs.OneTime.{chain_end, key_candidate, key_hash}
 use Rattle.lms_core.proofs.Ends.{end_is, ends_joined}
-use Rattle.lms_core.proofs.Rows.{shifted_one, width_of_row}
+use Rattle.lms_core.proofs.Public.Rows.{shifted_one, width_of_row}
 use Rattle.lms_core.proofs.Slots.{slot}
 use Rattle.lms_core.proofs.one_time.key_candidate.Goals as goal
 

@@ -3,7 +3,7 @@ use Rattle.std.proofs.lemmas.List.{take_rest}
 use Rattle.lms_core.specs.Lms.{root_candidate}
 use Rattle.lms_core.specs.Layout.{chains_end, signature_at}
 use Rattle.lms_core.proofs.Keys.{height_of}
-use Rattle.lms_core.proofs.Rows.{leaf_count}
+use Rattle.lms_core.proofs.Public.Rows.{leaf_count}
 use Rattle.lms_core.proofs.Signatures.{path_size}
 use Rattle.lms_core.proofs.verify.root_candidate.Goals as goal
 

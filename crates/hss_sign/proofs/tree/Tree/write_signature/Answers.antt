@@ -6,6 +6,7 @@ use Rattle.lms_core.specs.Tree.{path_above}
 use Rattle.hss_sign.specs.Params.{lms_type, ots_params, ots_type}
 use Rattle.hss_sign.specs.Sign.{one_time_signature, randomizer}
 use Rattle.hss_sign.specs.Trees.{leaf_at}
+use Rattle.std.proofs.lemmas.List.{append-nil}
 use Rattle.hss_sign.proofs.Joined.{six_parts}
 use Rattle.hss_sign.proofs.tree.Tree.write_signature.Goals as goal
 
@@ -30,6 +31,8 @@ returns c =
             c.ots_type.ensures,
             c.ots.ensures.value,
             c.message_hash-digest.ensures,
+            c.new.ensures.value,
+            append-nil c.args.message.now,
             c.at-randomizer.ensures,
           )
           (six_parts c.args.bytes.now.items (u32_bytes q) (u32_bytes (ots_type params)) (randomizer tree q)

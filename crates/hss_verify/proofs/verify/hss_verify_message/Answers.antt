@@ -3,8 +3,8 @@ use Rattle.std.proofs.lemmas.Bool.{eqb-true, leb-true}
 use Rattle.lms_core.specs.Bytes.{u32_at}
 use Rattle.hss_verify.specs.Hss.{HssValid}
 use Rattle.hss_verify.proofs.Levels.{counted, number_and_rest, valid_from}
-use Rattle.hss_verify.proofs.verify.hss_verify.Goals as goal
-use Rattle.hss_verify.proofs.verify.hss_verify.Goals.{then-signature-ge4, else-signature-ge4}
+use Rattle.hss_verify.proofs.verify.hss_verify_message.Goals as goal
+use Rattle.hss_verify.proofs.verify.hss_verify_message.Goals.{then-signature-ge4, else-signature-ge4}
 
 pub returns-then-read_u32-links : goal.returns-then-read_u32-links
 returns-then-read_u32-links c =

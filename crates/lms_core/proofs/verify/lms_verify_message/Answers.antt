@@ -2,7 +2,7 @@ use Rattle.std.proofs.Common.{ℕ, ◌<◌, get_or, sym, ◌∙◌, arith}
 use Rattle.std.proofs.lemmas.Bool.Decides.{Decides-eqb}
 use Rattle.std.proofs.lemmas.Slice.Eq.{slice_eq-Decides}
 use Rattle.lms_core.proofs.Signatures.{accepted, valid_at}
-use Rattle.lms_core.proofs.verify.lms_verify.Goals as goal
+use Rattle.lms_core.proofs.verify.lms_verify_message.Goals as goal
 
 pub returns-then-has_form : goal.returns-then-has_form
 returns-then-has_form c =
