@@ -28,7 +28,7 @@ use Rattle.cbor_heads.proofs.Public.Outcomes.{chosen, passed, ok_is, done, faile
 use Rattle.cbor_heads.proofs.Public.Heads.{Took}
 use Rattle.cbor_core.proofs.Items.{TakesBy, between_is, item_takes}
 use Rattle.cbor_heads.proofs.Public.Kinds.{kind_takes}
-use Rattle.cbor_heads.proofs.Public.Places.{behind-append, behind_here, behind_then}
+use Rattle.cbor_heads.proofs.Public.Places.{behind_here, behind_then}
 
 -- ---- the place of a head's fault
 

@@ -1,7 +1,7 @@
 -- The laws of whole inputs.
-use Rattle.std.proofs.Common.{◌≡◌, ℕ, ◌+◌, ◌≤◌, ◌<◌, List, [], ◌++◌, length, take, drop, Result, Ok, Err, refl, sym, ap, subst, ◌∙◌, arith, ◌⊎◌, inl, inr}
+use Rattle.std.proofs.Common.{◌≡◌, ℕ, ◌≤◌, ◌<◌, List, ◌++◌, length, take, drop, Result, Ok, Err, refl, sym, ap, subst, ◌∙◌, arith, ◌⊎◌, inl, inr}
 use Rattle.std.specs.Prelude.{IfOk}
-use Rattle.std.proofs.lemmas.List.{append-nil, take_at, take-append-drop, length-append, length-take}
+use Rattle.std.proofs.lemmas.List.{take_at, length-append}
 use Rattle.cbor_core.specs.declared.item.Item.{Item}
 use Rattle.cbor_core.specs.declared.fault.CborFault.{CborFault}
 use Rattle.cbor_core.specs.declared.fault.CborFault.TheVariants as faults
@@ -17,7 +17,7 @@ use Rattle.cbor_core.proofs.Items.{item_takes}
 use Rattle.cbor_core.proofs.Public.Whole.{reads, whole_front}
 use Rattle.cbor_core.proofs.Faults.{item_fault}
 use Rattle.cbor_core.proofs.Refused.{item_refuses}
-use Rattle.cbor_core.specs.Law.{SpellsFront, IsFaulty, IsFaultyWhole, OneItem, OneFault, ExactlyOne, SpelledInFront, OneForOne}
+use Rattle.cbor_core.specs.Law.{SpellsFront, IsFaulty, IsFaultyWhole, OneItem, OneFault, ExactlyOne}
 
 pub found : (bytes : List ℕ) (r : Result (Item × ℕ) CborFault) → IsBytes bytes → Decodes (item_at 16 (start bytes)) r → IfOk r (λ x. (x.1 ≤ length bytes) × Spells x.0 (take x.1 bytes))
 found bytes (Ok x) fits d =

@@ -1,6 +1,6 @@
 -- What is read is spelled so, and what is spelled so is read.
 use Rattle.cbor_heads.specs.declared.fault.Fault.{Fault}
-use Rattle.std.proofs.Common.{◌≡◌, ℕ, zero, suc, ◌+◌, ◌-◌, ◌^◌, ◌<◌, ◌≤◌, Bool, true, false, cond, List, [], ◌∷◌, ◌++◌, length, take, Some, None, Ok, Err, refl, sym, ap, subst, ◌∙◌, append_assoc, arith, inl, inr}
+use Rattle.std.proofs.Common.{◌≡◌, ℕ, zero, suc, ◌+◌, ◌-◌, ◌^◌, ◌<◌, ◌≤◌, Bool, true, false, cond, List, [], ◌∷◌, ◌++◌, length, take, Some, None, Ok, refl, sym, ap, subst, ◌∙◌, append_assoc, arith, inl, inr}
 use Rattle.std.specs.Prelude.{nat_lt, ◌==◌}
 use Rattle.std.specs.List.{AllByRecursion}
 use Rattle.std.specs.Str.{is_utf8}
@@ -14,18 +14,17 @@ use Rattle.cbor_core.specs.declared.item.Pair.{Pair}
 use Rattle.cbor_heads.specs.declared.fault.Why.TheVariants as why
 use Rattle.cbor_heads.specs.declared.head.Kind.{Kind}
 use Rattle.cbor_heads.specs.declared.head.Kind.TheVariants as k
-use Rattle.cbor_heads.specs.declared.head.Head.{Head}
 use Rattle.cbor_heads.specs.Place.{Place, skip, between}
-use Rattle.cbor_heads.specs.Head.{head, kind_of}
+use Rattle.cbor_heads.specs.Head.{head}
 use Rattle.cbor_core.specs.Spelling.{spelling, spellings, pair_spelling, pair_spellings, bytes_below, KeysAscend, IsSpellable}
 use Rattle.base_types.specs.Bytes.{IsBytes}
-use Rattle.cbor_heads.specs.Reading.{Outcome, Reader, ◌>>=◌, nested}
+use Rattle.cbor_heads.specs.Reading.{Reader, ◌>>=◌, nested}
 use Rattle.cbor_heads.specs.HeadReading.{fault, head_at}
 use Rattle.cbor_core.specs.Reading.{part, text_by, bytes_at, text_at, items_at, pairs_at, simple, content, item_at}
 use Rattle.cbor_core.proofs.Public.Spell.{spelling_Unsigned, spelling_Negative, spelling_Bytes, spelling_Text, spelling_Array, spelling_Map, spelling_Tag, spelling_Truth, spelling_Null, pair_spelling_out}
 use Rattle.base_types.proofs.Public.Bytes.{IsBytes-drop, IsBytes-take}
 use Rattle.cbor_heads.proofs.Public.Outcomes.{passed, chosen, ok_is, not_ok, done, bind_ok}
-use Rattle.cbor_heads.proofs.Public.Heads.{Took, HeadTook, head_takes, head_short, false_true}
+use Rattle.cbor_heads.proofs.Public.Heads.{Took, head_short, false_true}
 use Rattle.cbor_core.proofs.Public.Levels.{IsWholeBy, to_spellable}
 use Rattle.cbor_heads.proofs.Public.Kinds.{Took-none, major_of, Took-then, kind_takes}
 

@@ -1,5 +1,5 @@
 -- Signatures of a key by its number of levels, and its capacity.
-use Rattle.std.proofs.Common.{◌≡◌, ℕ, ◌*◌, ◌/◌, ◌%◌, ◌^◌, ◌<◌, ◌⊎◌, inl, inr, List, ◌++◌, refl, sym, ◌∙◌, arith}
+use Rattle.std.proofs.Common.{◌≡◌, ℕ, ◌*◌, ◌/◌, ◌%◌, ◌^◌, ◌⊎◌, inl, inr, List, ◌++◌, refl}
 use Rattle.lms_core.specs.Bytes.{u32_bytes}
 use Rattle.lms_core.specs.Lms.{signature_bytes}
 use Rattle.hss_sign.specs.declared.params.KeyParams.{KeyParams}

@@ -1,5 +1,5 @@
 -- What was signed verifies.
-use Rattle.std.proofs.Common.{◌≡◌, ℕ, zero, suc, ◌+◌, ◌-◌, ◌*◌, ◌/◌, ◌%◌, ◌^◌, ◌<◌, ◌≤◌, ◌⊎◌, inl, inr, List, [], ◌∷◌, ◌++◌, Some, length, get_or, refl, sym, subst, ap, ◌∙◌, arith}
+use Rattle.std.proofs.Common.{◌≡◌, ℕ, zero, suc, ◌+◌, ◌-◌, ◌*◌, ◌/◌, ◌%◌, ◌^◌, ◌<◌, ◌≤◌, ◌⊎◌, inl, inr, List, [], ◌∷◌, ◌++◌, Some, length, get_or, refl, sym, ap, ◌∙◌, arith}
 use Rattle.std.specs.Prelude.{map, take, slice_index_or, ◌==◌, if◌then◌else◌}
 use Rattle.std.specs.List.{concat, range_with_len}
 use Rattle.std.proofs.lemmas.List.{append-nil, append_assoc, length-take-le}
@@ -12,14 +12,14 @@ use Rattle.lms_core.specs.Chains.{chain}
 use Rattle.lms_core.specs.Digits.{coef, signed_string}
 use Rattle.lms_core.specs.OneTime.{chain_end, key_candidate, key_hash, message_hash}
 use Rattle.lms_core.specs.Parameters.{lms_table, ots_table, width_4, width_8}
-use Rattle.lms_core.specs.Lms.{AllHashes, Fits, IsKnown, IsPublicKey, LmsValid, public_key_bytes, root_candidate, signature_bytes}
+use Rattle.lms_core.specs.Lms.{AllHashes, Fits, IsKnown, LmsValid, public_key_bytes, root_candidate, signature_bytes}
 use Rattle.lms_core.specs.Tree.{leaf_hash, path_above, root_above, tree_node}
 use Rattle.lms_core.proofs.Public.Chains.{chain_ends, coef_at_most}
 use Rattle.lms_core.proofs.Public.Trees.{path_leads_to_root}
 use Rattle.hss_verify.specs.Hss.{HssValid, IsHssPublic}
 use Rattle.hss_sign.specs.declared.params.KeyParams.{KeyParams}
 use Rattle.hss_sign.specs.declared.secrets.TreeSecret.{TreeSecret}
-use Rattle.hss_sign.specs.Params.{IsProperParams, capacity, lms_type, ots_params, ots_type}
+use Rattle.hss_sign.specs.Params.{IsProperParams, capacity, ots_params}
 use Rattle.hss_sign.specs.Secrets.{lower_secret, secret_at, top_secret}
 use Rattle.hss_sign.specs.Trees.{end_of_chain, leaf_at, one_time_public, tree_public}
 use Rattle.hss_sign.specs.Sign.{chain_to_digit, lower_public, one_time_signature, public_of, randomizer, signature_of, signed_key, tree_signature}

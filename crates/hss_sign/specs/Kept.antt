@@ -1,5 +1,5 @@
 -- What contracts see of a key, and what it keeps.
-use Rattle.std.specs.Prelude.{◌≡◌, ℕ, ◌<◌, ◌≤◌, ◌^◌, List, Option, IfSome}
+use Rattle.std.specs.Prelude.{◌≡◌, ℕ, ◌≤◌, List, Option, IfSome}
 use Rattle.hss_sign.specs.declared.params.KeyParams.{KeyParams}
 use Rattle.hss_sign.specs.declared.tree.Tree.{Tree}
 use Rattle.hss_sign.specs.declared.key.Lower.{Lower}

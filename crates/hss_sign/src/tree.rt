@@ -50,7 +50,12 @@ impl Tree {
     {
         let randomizer = self.secret.at(leaf, 0xfffd);
         let parts = [message];
-        let digest = message_hash(&self.secret.identifier, leaf, &randomizer, &Message::new(&parts));
+        let digest = message_hash(
+            &self.secret.identifier,
+            leaf,
+            &randomizer,
+            &Message::new(&parts),
+        );
         bytes.extend_from_slice(&leaf.to_be_bytes())?;
         bytes.extend_from_slice(&params.ots_type().to_be_bytes())?;
         bytes.extend_from_slice(&randomizer)?;

@@ -2,9 +2,9 @@
 //! of which signs the public key of the next (RFC 8554). Nothing here takes memory.
 #![tactic(auto)]
 
-pub use public_key::HssPublic;
 pub use lms_core::Message;
-pub use verify::{hss_verify_message, hss_verify};
+pub use public_key::HssPublic;
+pub use verify::{hss_verify, hss_verify_message};
 
 mod public_key;
 #[cfg(test)]

@@ -6,7 +6,9 @@ ghost use Rattle.lms_core.specs.Layout.{IsFormed};
 ghost use Rattle.lms_core.specs.Lms.{LmsValid};
 
 use crate::public_key::HssPublic;
-use lms_core::{Message, lms_has_form, lms_signature_len, lms_verify_message, lms_verify, read_u32};
+use lms_core::{
+    Message, lms_has_form, lms_signature_len, lms_verify, lms_verify_message, read_u32,
+};
 
 const LMS_PUBLIC_LEN: usize = 56;
 

@@ -1,7 +1,7 @@
 -- The order of keys by their encodings.
-use Rattle.std.proofs.Common.{◌≡◌, ℕ, ◌+◌, ◌*◌, ◌%◌, ◌<◌, ◌≤◌, Bool, true, false, cond, List, [], ◌∷◌, ◌++◌, length, refl, ap, subst, ◌∙◌, arith, inl, inr}
+use Rattle.std.proofs.Common.{◌≡◌, ℕ, ◌+◌, ◌*◌, ◌%◌, ◌<◌, Bool, true, false, cond, List, [], ◌∷◌, ◌++◌, length, refl, ap, subst, ◌∙◌, arith, inl, inr}
 use Rattle.std.specs.Prelude.{nat_lt, ◌==◌}
-use Rattle.std.specs.Int.{to_be_bytes, w8, w16, w32, w64}
+use Rattle.std.specs.Int.{to_be_bytes, w8}
 use Rattle.std.proofs.lemmas.Bool.{cases_lt, le-ltb, lt-ltb, eq-eqb, ltb-true}
 use Rattle.cbor_core.specs.declared.item.Item.{Item, out-Item}
 use Rattle.cbor_core.specs.declared.item.Pair.{Pair}

@@ -1,10 +1,8 @@
 -- Bytes as a whole: one item that they spell, or one fault.
-use Rattle.std.proofs.Common.{◌≡◌, ℕ, ◌+◌, ◌<◌, ◌≤◌, List, [], ◌++◌, length, take, drop, Ok, Err, refl, sym, ap, subst, ◌∙◌, arith, ◌⊎◌, inl, inr}
+use Rattle.std.proofs.Common.{◌≡◌, ℕ, ◌+◌, ◌<◌, ◌≤◌, List, [], ◌++◌, length, take, drop, Ok, Err, refl, sym, ap, ◌∙◌, arith, inl, inr}
 use Rattle.std.proofs.lemmas.List.{append-nil, take_at, take-append-drop, length-append, length-take}
-use Rattle.base_types.specs.Bytes.{IsBytes}
 use Rattle.cbor_heads.specs.declared.fault.Fault.{Fault}
 use Rattle.cbor_heads.specs.declared.fault.Why.{Why}
-use Rattle.cbor_heads.specs.declared.fault.Why.TheVariants as why
 use Rattle.cbor_heads.specs.Place.{Place, start}
 use Rattle.cbor_heads.specs.Reading.{Outcome}
 use Rattle.cbor_heads.proofs.Public.Outcomes.{ok_is, err_is}

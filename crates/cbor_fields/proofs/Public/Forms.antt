@@ -2,11 +2,10 @@
 use Rattle.std.proofs.Common.{◌≡◌, ℕ, ◌<◌, Bool, true, false, List, [], ◌∷◌, length, drop, Option, Some, None, map, refl, sym, ap, subst, ◌∙◌, inl, inr, arith, cond}
 use Rattle.std.specs.Prelude.{option_map, option_and_then}
 use Rattle.std.specs.List.{AllByRecursion}
-use Rattle.std.proofs.lemmas.List.{drop_all, drop_more, append-nil}
+use Rattle.std.proofs.lemmas.List.{drop_all, drop_more}
 use Rattle.cbor_core.specs.declared.item.Item.{Item}
 use Rattle.cbor_core.specs.declared.item.Item.TheVariants as i
 use Rattle.cbor_heads.specs.declared.fault.Fault.{Fault}
-use Rattle.cbor_heads.specs.Place.{start}
 use Rattle.cbor_core.specs.Spelling.{spelling, Spells}
 use Rattle.cbor_core.specs.Law.{SpellsFront, IsFaultyWhole}
 use Rattle.cbor_core.specs.Views.{unsigned_of, bytes_of, text_of, truth_of, array_of}

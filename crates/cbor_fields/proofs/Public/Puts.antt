@@ -5,7 +5,7 @@ use Rattle.std.proofs.lemmas.Bool.{le-ltb, eqb-true}
 use Rattle.cbor_core.specs.declared.item.Item.{Item, out-Item}
 use Rattle.cbor_core.specs.declared.item.Pair.{Pair}
 use Rattle.cbor_core.specs.declared.item.Item.TheOpen.{Item-F}
-use Rattle.cbor_core.specs.declared.item.Item.TheViews.{roll-Item, roll-out-Item}
+use Rattle.cbor_core.specs.declared.item.Item.TheViews.{roll-out-Item}
 use Rattle.cbor_core.specs.declared.item.Item.TheVariants as i
 use Rattle.cbor_core.specs.Spelling.{spelling, KeysAscend}
 use Rattle.cbor_core.specs.Views.{field, labelled_by}

@@ -1,13 +1,11 @@
 -- The parts of an item that bytes spell are spelled by bytes, and a view of it tells which item it is.
-use Rattle.std.proofs.Common.{◌≡◌, ℕ, zero, suc, Bool, true, false, List, [], ◌∷◌, Option, Some, refl, sym, ap, subst, ◌∙◌}
+use Rattle.std.proofs.Common.{◌≡◌, ℕ, zero, suc, Bool, true, false, List, [], ◌∷◌, Some, refl, subst}
 use Rattle.std.specs.List.{AllByRecursion}
 use Rattle.cbor_core.specs.declared.item.Item.{Item, out-Item}
 use Rattle.cbor_core.specs.declared.item.Pair.{Pair}
 use Rattle.cbor_core.specs.declared.item.Item.TheOpen.{Item-F}
-use Rattle.cbor_core.specs.declared.item.Item.TheViews.{roll-Item, roll-out-Item}
-use Rattle.cbor_core.specs.declared.item.Item.TheVariants as i
 use Rattle.cbor_core.specs.Spelling.{KeysAscend, IsProperBy, IsProperWithin, IsInRangeBy, HasRangesWithin}
-use Rattle.cbor_core.specs.Views.{unsigned_by, unsigned_of, bytes_by, bytes_of, text_by, text_of, truth_by, truth_of, array_by, array_of, map_by, map_of, field, labelled_by}
+use Rattle.cbor_core.specs.Views.{array_by, array_of, map_by, map_of, field, labelled_by}
 use Rattle.cbor_core.proofs.Public.Parts.{proper_more}
 use Rattle.cbor_fields.specs.Written.{IsSpelled}
 

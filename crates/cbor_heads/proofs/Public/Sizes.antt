@@ -1,5 +1,5 @@
 -- How long a head is at most.
-use Rattle.std.proofs.Common.{ℕ, ◌+◌, ◌<◌, ◌≤◌, length, arith, inl, inr}
+use Rattle.std.proofs.Common.{ℕ, ◌≤◌, length, arith, inl, inr}
 use Rattle.std.proofs.lemmas.Bool.{cases_lt}
 use Rattle.cbor_heads.specs.Head.{head}
 use Rattle.cbor_heads.proofs.Public.Heads.{head_short, head_8, head_16, head_32, head_64}

@@ -1,7 +1,7 @@
 //! A plain signer over trees of height 5, whose keys come from a seed (RFC 8554, appendix A).
 
 use lms_core::{
-    chain, chain_step, coef, inner_hash, leaf_hash, message_hash, Message, ots_of, signed_string,
+    Message, chain, chain_step, coef, inner_hash, leaf_hash, message_hash, ots_of, signed_string,
 };
 use sha2::{Digest, Sha256};
 use std::alloc::{AllocError, Global};

@@ -1,4 +1,4 @@
-use Rattle.std.proofs.Common.{◌≡◌, refl, ap, ◌∙◌}
+use Rattle.std.proofs.Common.{refl, ◌∙◌}
 use Rattle.hss_sign.specs.Sign.{signed_key}
 use Rattle.hss_sign.proofs.key.lower_tree.Goals as goal
 

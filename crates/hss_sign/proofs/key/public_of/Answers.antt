@@ -1,4 +1,4 @@
-use Rattle.std.proofs.Common.{◌≡◌, List, ℕ, refl, sym, subst, ap, ◌∙◌}
+use Rattle.std.proofs.Common.{◌≡◌, refl, sym, subst, ◌∙◌}
 use Rattle.hss_verify.specs.Hss.{IsHssPublic}
 use Rattle.hss_sign.specs.Sign.{public_of}
 use Rattle.hss_sign.proofs.Valid.{is_public}

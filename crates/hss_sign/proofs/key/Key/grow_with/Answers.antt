@@ -1,4 +1,4 @@
-use Rattle.std.proofs.Common.{◌≡◌, refl, ap, ◌∙◌}
+use Rattle.std.proofs.Common.{◌∙◌}
 use Rattle.hss_sign.proofs.key.Key.grow_with.Goals as goal
 
 pub invariant_of-result : goal.invariant_of-result

@@ -1,4 +1,4 @@
-use Rattle.std.proofs.Common.{◌≡◌, ℕ, ◌/◌, ◌%◌, ◌^◌, List, refl, sym, subst, ap, ◌∙◌}
+use Rattle.std.proofs.Common.{◌≡◌, ℕ, ◌/◌, ◌%◌, ◌^◌, ap, ◌∙◌}
 use Rattle.hss_sign.specs.Sign.{signature_of}
 use Rattle.hss_sign.proofs.Keys.{by_one_level, by_two_levels, two_if_not_one}
 use Rattle.hss_sign.proofs.key.Key.sign.Goals as goal

@@ -1,4 +1,3 @@
-use Rattle.std.proofs.Common.{◌≡◌, ◌∙◌, refl}
 use Rattle.lms_core.specs.Bytes.{u32_bytes}
 use Rattle.lms_core.specs.Tree.{tree_node}
 use Rattle.hss_sign.specs.Params.{lms_type, ots_type}

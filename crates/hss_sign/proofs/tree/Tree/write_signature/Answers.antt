@@ -1,4 +1,4 @@
-use Rattle.std.proofs.Common.{◌≡◌, ◌+◌, ◌^◌, ◌∙◌, refl}
+use Rattle.std.proofs.Common.{◌+◌, ◌^◌}
 use Rattle.std.specs.List.{concat}
 use Rattle.lms_core.specs.Bytes.{u32_bytes}
 use Rattle.lms_core.specs.OneTime.{message_hash}
