@@ -1,0 +1,7 @@
+pub mod Public
+mod Endings
+mod Fronts
+mod Wholes
+mod Openings
+mod Taken
+mod Remaining

@@ -1,0 +1,5 @@
+pub mod Span
+pub mod Ending
+pub mod Opening
+pub mod Parts
+pub mod Fields

@@ -1,0 +1,73 @@
+ghost use Rattle.std.specs.Prelude.{◌≡◌, ℕ, List, ◌++◌, MatchOption};
+ghost use Rattle.cbor_core.specs.declared.item.Item.{Item, out-Item};
+ghost use Rattle.cbor_core.specs.declared.item.Pair.{Pair};
+ghost use Rattle.cbor_core.specs.Spelling.{spelling, pair_spelling};
+ghost use Rattle.cbor_span.specs.Parts.{HasSpelling};
+ghost use Rattle.cbor_span.specs.Opening.{opening};
+
+use crate::walk::{read_since, skip_content, span};
+use base_types::CBOR_DEPTH_LIMIT;
+use cbor_heads::{Head, Input, read_head};
+
+/// An item at the front of some bytes, as one walk over it found it.
+#[derive(Clone, Copy, Debug)]
+pub struct FrontItem<'a> {
+    /// Its head.
+    pub head: Head,
+    /// The bytes of it behind the head: the content of a string, the parts of a container.
+    pub content: &'a [u8],
+    /// The bytes behind the item.
+    pub behind: &'a [u8],
+}
+
+/// The item that a front of the bytes spells, by one walk: its head, its content and what stands behind
+/// it.
+///
+/// A front of the bytes is to spell an item. Of others nothing is promised.
+pub fn open_first(bytes: &[u8]) -> Option<FrontItem<'_>>
+    ensures { (x : Item) (more : List ℕ) → HasSpelling x → bytes.now ≡ spelling x ++ more → MatchOption result ⊥ (λ r. (r.head ≡ (opening (out-Item x)).0) × (r.content.now ≡ (opening (out-Item x)).1) × (r.behind.now ≡ more)) }
+{
+    let mut input = Input::new(bytes);
+    match read_head(&mut input) {
+        Ok(head) => {
+            let content = input.rest();
+            match skip_content(CBOR_DEPTH_LIMIT, &mut input, 0, head) {
+                Ok(()) => Some(FrontItem {
+                    head,
+                    content: read_since(content, &input),
+                    behind: input.rest(),
+                }),
+                Err(_) => None,
+            }
+        }
+        Err(_) => None,
+    }
+}
+
+/// The bytes of the item that a front of the bytes spells, and what stands behind them.
+///
+/// A front of the bytes is to spell an item. Of others nothing is promised.
+pub fn first(bytes: &[u8]) -> Option<(&[u8], &[u8])>
+    ensures { (x : Item) (more : List ℕ) → HasSpelling x → bytes.now ≡ spelling x ++ more → MatchOption result ⊥ (λ r. (r.0.now ≡ spelling x) × (r.1.now ≡ more)) }
+{
+    match span(bytes) {
+        Ok(n) => Some(bytes.split_at(n)),
+        Err(_) => None,
+    }
+}
+
+/// The bytes of a key and of its value, which a front of the bytes spells one behind the other, and what
+/// stands behind them.
+///
+/// A front of the bytes is to spell a pair. Of others nothing is promised.
+pub fn first_pair(bytes: &[u8]) -> Option<(&[u8], &[u8], &[u8])>
+    ensures { (p : Pair) (more : List ℕ) → HasSpelling p.key → HasSpelling p.value → bytes.now ≡ pair_spelling p ++ more → MatchOption result ⊥ (λ r. (r.0.now ≡ spelling p.key) × (r.1.now ≡ spelling p.value) × (r.2.now ≡ more)) }
+{
+    match first(bytes) {
+        Some((key, behind)) => match first(behind) {
+            Some((value, more)) => Some((key, value, more)),
+            None => None,
+        },
+        None => None,
+    }
+}
