@@ -4,4 +4,5 @@ mod Fronts
 mod Wholes
 mod Openings
 mod Taken
+mod Ascending
 mod Remaining

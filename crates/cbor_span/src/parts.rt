@@ -1,8 +1,8 @@
-ghost use Rattle.std.specs.Prelude.{◌≡◌, ℕ, List, ◌++◌, MatchOption};
+ghost use Rattle.std.specs.Prelude.{◌≡◌, ℕ, List, MatchOption};
 ghost use Rattle.cbor_core.specs.declared.item.Item.{Item, out-Item};
 ghost use Rattle.cbor_core.specs.declared.item.Pair.{Pair};
-ghost use Rattle.cbor_core.specs.Spelling.{spelling, pair_spelling};
-ghost use Rattle.cbor_span.specs.Parts.{HasSpelling};
+ghost use Rattle.cbor_core.specs.Spelling.{spelling};
+ghost use Rattle.cbor_span.specs.Parts.{IsInFront, PairInFront};
 ghost use Rattle.cbor_span.specs.Opening.{opening};
 
 use crate::walk::{read_since, skip_content, span};
@@ -25,7 +25,7 @@ pub struct FrontItem<'a> {
 ///
 /// A front of the bytes is to spell an item. Of others nothing is promised.
 pub fn open_first(bytes: &[u8]) -> Option<FrontItem<'_>>
-    ensures { (x : Item) (more : List ℕ) → HasSpelling x → bytes.now ≡ spelling x ++ more → MatchOption result ⊥ (λ r. (r.head ≡ (opening (out-Item x)).0) × (r.content.now ≡ (opening (out-Item x)).1) × (r.behind.now ≡ more)) }
+    ensures { (x : Item) (more : List ℕ) → IsInFront x bytes.now more → MatchOption result ⊥ (λ r. (r.head ≡ (opening (out-Item x)).0) × (r.content.now ≡ (opening (out-Item x)).1) × (r.behind.now ≡ more)) }
 {
     let mut input = Input::new(bytes);
     match read_head(&mut input) {
@@ -48,7 +48,7 @@ pub fn open_first(bytes: &[u8]) -> Option<FrontItem<'_>>
 ///
 /// A front of the bytes is to spell an item. Of others nothing is promised.
 pub fn first(bytes: &[u8]) -> Option<(&[u8], &[u8])>
-    ensures { (x : Item) (more : List ℕ) → HasSpelling x → bytes.now ≡ spelling x ++ more → MatchOption result ⊥ (λ r. (r.0.now ≡ spelling x) × (r.1.now ≡ more)) }
+    ensures { (x : Item) (more : List ℕ) → IsInFront x bytes.now more → MatchOption result ⊥ (λ r. (r.0.now ≡ spelling x) × (r.1.now ≡ more)) }
 {
     match span(bytes) {
         Ok(n) => Some(bytes.split_at(n)),
@@ -61,7 +61,7 @@ pub fn first(bytes: &[u8]) -> Option<(&[u8], &[u8])>
 ///
 /// A front of the bytes is to spell a pair. Of others nothing is promised.
 pub fn first_pair(bytes: &[u8]) -> Option<(&[u8], &[u8], &[u8])>
-    ensures { (p : Pair) (more : List ℕ) → HasSpelling p.key → HasSpelling p.value → bytes.now ≡ pair_spelling p ++ more → MatchOption result ⊥ (λ r. (r.0.now ≡ spelling p.key) × (r.1.now ≡ spelling p.value) × (r.2.now ≡ more)) }
+    ensures { (p : Pair) (more : List ℕ) → PairInFront p bytes.now more → MatchOption result ⊥ (λ r. (r.0.now ≡ spelling p.key) × (r.1.now ≡ spelling p.value) × (r.2.now ≡ more)) }
 {
     match first(bytes) {
         Some((key, behind)) => match first(behind) {

@@ -2,7 +2,7 @@ ghost use Rattle.std.specs.Prelude.{◌≡◌, ◌++◌, ℕ, List, option_map, 
 ghost use Rattle.cbor_core.specs.declared.item.Item.{Item, out-Item};
 ghost use Rattle.cbor_core.specs.Spelling.{Spells, spelling, spellings, pair_spellings};
 ghost use Rattle.cbor_core.specs.Views.{unsigned_of, bytes_of, text_of, array_of, map_of, labelled_by};
-ghost use Rattle.cbor_span.specs.Parts.{HasSpelling};
+ghost use Rattle.cbor_span.specs.Parts.{IsInFront};
 ghost use Rattle.cbor_span.specs.Opening.{opening, negative_of, tagged_of, is_null};
 
 use cbor_heads::{Head, Input, Kind, read_head};
@@ -12,7 +12,7 @@ const NULL: u64 = 22;
 
 /// The head of the item that a front of the bytes spells, and all bytes behind that head.
 pub fn open_front(bytes: &[u8]) -> Option<(Head, &[u8])>
-    ensures { (x : Item) (more : List ℕ) → HasSpelling x → bytes.now ≡ spelling x ++ more → MatchOption result ⊥ (λ r. (r.0 ≡ (opening (out-Item x)).0) × (r.1.now ≡ (opening (out-Item x)).1 ++ more)) }
+    ensures { (x : Item) (more : List ℕ) → IsInFront x bytes.now more → MatchOption result ⊥ (λ r. (r.0 ≡ (opening (out-Item x)).0) × (r.1.now ≡ (opening (out-Item x)).1 ++ more)) }
 {
     let mut input = Input::new(bytes);
     match read_head(&mut input) {

@@ -5,7 +5,8 @@ use Rattle.cbor_core.specs.declared.item.Item.{Item, out-Item}
 use Rattle.cbor_core.specs.declared.item.Item.TheOpen.{Item-F}
 use Rattle.cbor_core.specs.declared.item.Item.TheVariants as i
 use Rattle.cbor_core.specs.declared.item.Pair.{Pair}
-use Rattle.cbor_core.specs.Spelling.{IsSpellable, Spells, spelling}
+use Rattle.cbor_core.specs.Spelling.{IsSpellable, Spells, KeysAscend, spelling}
+use Rattle.cbor_core.proofs.Public.Parts.{parts_are_proper}
 use Rattle.cbor_core.proofs.Public.Levels.{IsWholeBy, to_spellable, from_spellable}
 use Rattle.cbor_span.specs.Parts.{HasSpelling, HaveSpellings}
 
@@ -45,6 +46,9 @@ members_spelled xs h = let level = rw i.outs-Array at (from_spellable 16 (i.Arra
 
 pub pairs_spelled : (ps : List Pair) → HasSpelling (i.Map ps) → HaveSpellings ps
 pairs_spelled ps h = let level = rw i.outs-Map at (from_spellable 16 (i.Map ps) h) in pairs_widen (IsSpellable 15) HasSpelling widened ps level.1
+
+pub keys_ascend : (ps : List Pair) → HasSpelling (i.Map ps) → KeysAscend [] ps
+keys_ascend ps h = parts_are_proper.keys ps h.0
 
 -- what has a spelling is spelled by it
 pub as_spelled : (x : Item) (bytes : List ℕ) → HasSpelling x → bytes ≡ spelling x → Spells x bytes
