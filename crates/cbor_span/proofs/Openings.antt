@@ -1,6 +1,7 @@
 -- The head of an item is read from its bytes, and what it announces is gone over.
-use Rattle.std.proofs.Common.{◌≡◌, ℕ, ◌+◌, ◌-◌, ◌^◌, ◌<◌, true, false, List, [], ◌++◌, length, drop, Ok, Err, refl, sym, ap, subst, ◌∙◌, append_assoc, arith, lit≤, lit<}
-use Rattle.std.proofs.lemmas.List.{append-nil, take_at, drop_at, length-append}
+use Rattle.std.proofs.Common.{◌≡◌, ℕ, ◌+◌, ◌-◌, ◌^◌, ◌<◌, ◌≤◌, true, false, List, [], ◌++◌, length, drop, Ok, Err, refl, sym, ap, subst, ◌∙◌, append_assoc, arith, lit≤, lit<}
+use Rattle.std.proofs.lemmas.List.{append-nil, take_at, drop_at, length-append, length-drop}
+use Rattle.base_types.specs.Bytes.{IsBytes}
 use Rattle.cbor_heads.specs.declared.fault.Fault.{Fault}
 use Rattle.cbor_heads.specs.declared.head.Head.{Head}
 use Rattle.cbor_heads.specs.Place.{Place, start, between}
@@ -23,7 +24,7 @@ use Rattle.cbor_span.specs.Ending.{ending}
 use Rattle.cbor_span.specs.Span.{IsSpan}
 use Rattle.cbor_span.specs.Opening.{opening}
 use Rattle.cbor_span.specs.Parts.{HasSpelling}
-use Rattle.cbor_span.proofs.Fronts.{ends_behind, place_is, place_not_fault}
+use Rattle.cbor_span.proofs.Fronts.{ends_behind, place_is, place_not_fault, spans}
 
 -- what the reader of heads finds, where more bytes stand behind the item
 abbrev pub Opens : Head × List ℕ → List ℕ → Outcome Fault Head → Type 0
@@ -112,6 +113,18 @@ pub taken_not : (x : Item) (more bytes : List ℕ) (h : Head) (q : Place) (f : F
 taken_not x more bytes h q f s bytes_are e over =
     let there = ends_behind bytes (length (spelling x)) (front_span x more bytes s bytes_are) in
     place_not_fault _ f (sym there ∙ step bytes h q e ∙ over)
+
+-- so many bytes spell an item
+pub taken_span : (bytes : List ℕ) (h : Head) (q r : Place) (behind : List ℕ) → IsBytes bytes → head_at (start bytes) ≡ Ok (h, q)
+    → ending (content (inside item_by 16) 0 h.kind h.argument q) ≡ Ok r → behind ≡ r.rest → IsSpan bytes (length bytes - length behind)
+taken_span bytes h q r behind fits e over is =
+    let all : ending (item_at 16 (start bytes)) ≡ Ok r = step bytes h q e ∙ over in
+    let s = spans bytes (Ok r.at) fits (r, all, refl) r.at refl in
+    let place : r ≡ record { at = r.at; rest = drop r.at bytes } = place_is r _ (sym all ∙ ends_behind bytes r.at s) in
+    let rest : behind ≡ drop r.at bytes = is ∙ ap (λ (p : Place). p.rest) place in
+    let within : r.at ≤ length bytes = s.1.0 in
+    let len : r.at ≡ length bytes - length behind = omega (arith, ap length rest, length-drop r.at bytes) in
+    subst (λ (n : ℕ). IsSpan bytes n) len s
 
 -- ---- bytes that spell the item alone
 

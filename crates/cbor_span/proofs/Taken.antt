@@ -1,12 +1,13 @@
 -- An item, and a pair, taken off the front of bytes.
-use Rattle.std.proofs.Common.{◌≡◌, ℕ, ◌≤◌, List, ◌++◌, length, take, drop, Result, Ok, Err, refl, ap, ◌∙◌, append_assoc}
-use Rattle.std.proofs.lemmas.List.{take_at, drop_at}
+use Rattle.std.proofs.Common.{◌≡◌, ℕ, ◌≤◌, List, ◌++◌, length, take, drop, Result, Ok, Err, refl, sym, ap, ◌∙◌, append_assoc}
+use Rattle.std.proofs.lemmas.List.{take_at, drop_at, take-append-drop}
 use Rattle.cbor_heads.specs.declared.fault.Fault.{Fault}
 use Rattle.cbor_core.specs.declared.item.Item.{Item}
 use Rattle.cbor_core.specs.declared.item.Pair.{Pair}
 use Rattle.cbor_core.specs.Spelling.{spelling, pair_spelling}
 use Rattle.cbor_core.proofs.Public.Spell.{pair_spelling_out}
 use Rattle.cbor_span.specs.Parts.{HasSpelling}
+use Rattle.cbor_span.specs.Span.{IsItem}
 use Rattle.cbor_span.proofs.Fronts.{same_length, not_both}
 use Rattle.cbor_span.proofs.Openings.{front_span}
 use Rattle.cbor_span.proofs.Wholes.{Found}
@@ -22,6 +23,12 @@ first_not x more bytes f h is found = let r : Result ℕ Fault = Err f in not_bo
 
 pub within : (bytes : List ℕ) (n : ℕ) → Found bytes (Ok n) → n ≤ length bytes
 within bytes n found = ((found n).0 refl).1.0
+
+-- what was cut off spells an item
+pub cut : (bytes : List ℕ) (n : ℕ) (a b : List ℕ) → a ≡ take n bytes → b ≡ drop n bytes → Found bytes (Ok n) → (bytes ≡ a ++ b) × IsItem a
+cut bytes n a b front back found =
+    let s = (found n).0 refl in
+    (rw (front, back) (sym (take-append-drop n bytes)), rw front (s.0, s.1.1))
 
 pub pair_bytes : (p : Pair) (more bytes : List ℕ) → bytes ≡ pair_spelling p ++ more → bytes ≡ spelling p.key ++ (spelling p.value ++ more)
 pair_bytes p more bytes is = is ∙ ap (λ (t : List ℕ). t ++ more) (pair_spelling_out p) ∙ append_assoc (spelling p.key) (spelling p.value) more

@@ -1,9 +1,10 @@
-ghost use Rattle.std.specs.Prelude.{◌≡◌, ℕ, List, MatchOption};
+ghost use Rattle.std.specs.Prelude.{◌≡◌, ◌-◌, ◌++◌, ℕ, List, IfSome, MatchOption, length};
 ghost use Rattle.cbor_core.specs.declared.item.Item.{Item, out-Item};
 ghost use Rattle.cbor_core.specs.declared.item.Pair.{Pair};
 ghost use Rattle.cbor_core.specs.Spelling.{spelling};
 ghost use Rattle.cbor_span.specs.Parts.{IsInFront, PairInFront};
 ghost use Rattle.cbor_span.specs.Opening.{opening};
+ghost use Rattle.cbor_span.specs.Span.{IsSpan, IsItem};
 
 use crate::walk::{read_since, skip_content, span};
 use base_types::CBOR_DEPTH_LIMIT;
@@ -21,11 +22,12 @@ pub struct FrontItem<'a> {
 }
 
 /// The item that a front of the bytes spells, by one walk: its head, its content and what stands behind
-/// it.
-///
-/// A front of the bytes is to spell an item. Of others nothing is promised.
+/// it. None exactly where no front of the bytes spells an item.
 pub fn open_first(bytes: &[u8]) -> Option<FrontItem<'_>>
-    ensures { (x : Item) (more : List ℕ) → IsInFront x bytes.now more → MatchOption result ⊥ (λ r. (r.head ≡ (opening (out-Item x)).0) × (r.content.now ≡ (opening (out-Item x)).1) × (r.behind.now ≡ more)) }
+    // The item there is found.
+    ensures found { (x : Item) (more : List ℕ) → IsInFront x bytes.now more → MatchOption result ⊥ (λ r. (r.head ≡ (opening (out-Item x)).0) × (r.content.now ≡ (opening (out-Item x)).1) × (r.behind.now ≡ more)) }
+    // What is found was there.
+    ensures spelled { IfSome result (λ r. IsSpan bytes.now (length bytes.now - length r.behind.now)) }
 {
     let mut input = Input::new(bytes);
     match read_head(&mut input) {
@@ -44,11 +46,13 @@ pub fn open_first(bytes: &[u8]) -> Option<FrontItem<'_>>
     }
 }
 
-/// The bytes of the item that a front of the bytes spells, and what stands behind them.
-///
-/// A front of the bytes is to spell an item. Of others nothing is promised.
+/// The bytes of the item that a front of the bytes spells, and what stands behind them. None exactly
+/// where no front of the bytes spells an item.
 pub fn first(bytes: &[u8]) -> Option<(&[u8], &[u8])>
-    ensures { (x : Item) (more : List ℕ) → IsInFront x bytes.now more → MatchOption result ⊥ (λ r. (r.0.now ≡ spelling x) × (r.1.now ≡ more)) }
+    // The item there is found.
+    ensures found { (x : Item) (more : List ℕ) → IsInFront x bytes.now more → MatchOption result ⊥ (λ r. (r.0.now ≡ spelling x) × (r.1.now ≡ more)) }
+    // What is found was there.
+    ensures spelled { IfSome result (λ r. (bytes.now ≡ r.0.now ++ r.1.now) × IsItem r.0.now) }
 {
     match span(bytes) {
         Ok(n) => Some(bytes.split_at(n)),
@@ -57,11 +61,12 @@ pub fn first(bytes: &[u8]) -> Option<(&[u8], &[u8])>
 }
 
 /// The bytes of a key and of its value, which a front of the bytes spells one behind the other, and what
-/// stands behind them.
-///
-/// A front of the bytes is to spell a pair. Of others nothing is promised.
+/// stands behind them. None exactly where no front of the bytes spells two items so.
 pub fn first_pair(bytes: &[u8]) -> Option<(&[u8], &[u8], &[u8])>
-    ensures { (p : Pair) (more : List ℕ) → PairInFront p bytes.now more → MatchOption result ⊥ (λ r. (r.0.now ≡ spelling p.key) × (r.1.now ≡ spelling p.value) × (r.2.now ≡ more)) }
+    // The pair there is found.
+    ensures found { (p : Pair) (more : List ℕ) → PairInFront p bytes.now more → MatchOption result ⊥ (λ r. (r.0.now ≡ spelling p.key) × (r.1.now ≡ spelling p.value) × (r.2.now ≡ more)) }
+    // What is found was there.
+    ensures spelled { IfSome result (λ r. (bytes.now ≡ r.0.now ++ (r.1.now ++ r.2.now)) × IsItem r.0.now × IsItem r.1.now) }
 {
     match first(bytes) {
         Some((key, behind)) => match first(behind) {

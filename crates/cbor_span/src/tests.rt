@@ -160,6 +160,7 @@ const BYTES: [u8; 9] = [0xa2, 0x01, 0x42, 0x01, 0x02, 0x04, 0x61, 0x61, 0x05];
 fn takes_parts_off(rt: HostRuntime) -> Result<(), Fail> {
     assert!(rt; first(&BYTES) == Some((&BYTES[..8], &BYTES[8..])));
     assert!(rt; first_pair(&BYTES[1..]) == Some((&BYTES[1..2], &BYTES[2..5], &BYTES[5..])));
+    assert!(rt; first(&[0x18]).is_none() && open_first(&[0x61]).is_none());
     let Some(item) = open_first(&BYTES) else {
         assert!(rt; false);
         return Ok(());
