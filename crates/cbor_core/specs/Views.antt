@@ -1,5 +1,5 @@
 -- What a typed reader sees of an item.
-use Rattle.std.specs.Prelude.{ℕ, Bool, false, ◌==◌, List, [], ◌∷◌, Option, Some, None, if◌then◌else◌}
+use Rattle.std.specs.Prelude.{ℕ, Bool, true, false, ◌==◌, List, [], ◌∷◌, Option, Some, None, if◌then◌else◌}
 use Rattle.cbor_core.specs.declared.item.Item.{Item, out-Item}
 use Rattle.cbor_core.specs.declared.item.Item.TheOpen.{Item-F}
 use Rattle.cbor_core.specs.declared.item.Pair.{Pair}
@@ -57,6 +57,29 @@ truth_by _ = None
 -- false or true
 abbrev pub truth_of : Item → Option Bool
 truth_of x = truth_by (out-Item x)
+
+-- the n of a negative integer -1-n, by its layer
+abbrev pub negative_by : Item-F Item Pair → Option ℕ
+negative_by (Item-F.Negative n) = Some n
+negative_by _ = None
+
+-- the n of a negative integer -1-n
+abbrev pub negative_of : Item → Option ℕ
+negative_of x = negative_by (out-Item x)
+
+-- the number of a tag and what it is put on, by its layer
+abbrev pub tagged_by : Item-F Item Pair → Option (ℕ × Item)
+tagged_by (Item-F.Tag n content) = Some (n, content)
+tagged_by _ = None
+
+-- the number of a tag and what it is put on
+abbrev pub tagged_of : Item → Option (ℕ × Item)
+tagged_of x = tagged_by (out-Item x)
+
+-- an item is null, by its layer
+abbrev pub is_null : Item-F Item Pair → Bool
+is_null Item-F.Null = true
+is_null _ = false
 
 -- a key is the number
 abbrev pub labelled_by : ℕ → Item-F Item Pair → Bool

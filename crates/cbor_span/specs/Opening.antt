@@ -18,26 +18,3 @@ opening (Item-F.Map pairs) = (record { kind = k.Map; argument = length pairs }, 
 opening (Item-F.Tag n content) = (record { kind = k.Tag; argument = n }, spelling content)
 opening (Item-F.Truth b) = (record { kind = k.Simple; argument = if b then 21 else 20 }, [])
 opening Item-F.Null = (record { kind = k.Simple; argument = 22 }, [])
-
--- the n of a negative integer -1-n, by its layer
-abbrev pub negative_by : Item-F Item Pair → Option ℕ
-negative_by (Item-F.Negative n) = Some n
-negative_by _ = None
-
--- the n of a negative integer -1-n
-abbrev pub negative_of : Item → Option ℕ
-negative_of x = negative_by (out-Item x)
-
--- the number of a tag and what it is put on, by its layer
-abbrev pub tagged_by : Item-F Item Pair → Option (ℕ × Item)
-tagged_by (Item-F.Tag n content) = Some (n, content)
-tagged_by _ = None
-
--- the number of a tag and what it is put on
-abbrev pub tagged_of : Item → Option (ℕ × Item)
-tagged_of x = tagged_by (out-Item x)
-
--- an item is null, by its layer
-abbrev pub is_null : Item-F Item Pair → Bool
-is_null Item-F.Null = true
-is_null _ = false

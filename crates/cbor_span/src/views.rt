@@ -1,9 +1,9 @@
 ghost use Rattle.std.specs.Prelude.{◌≡◌, ◌++◌, ℕ, List, option_map, MatchOption, length};
 ghost use Rattle.cbor_core.specs.declared.item.Item.{Item, out-Item};
 ghost use Rattle.cbor_core.specs.Spelling.{Spells, spelling, spellings, pair_spellings};
-ghost use Rattle.cbor_core.specs.Views.{unsigned_of, bytes_of, text_of, array_of, map_of, labelled_by};
+ghost use Rattle.cbor_core.specs.Views.{unsigned_of, bytes_of, text_of, array_of, map_of, labelled_by, negative_of, tagged_of, is_null};
 ghost use Rattle.cbor_span.specs.Parts.{IsInFront};
-ghost use Rattle.cbor_span.specs.Opening.{opening, negative_of, tagged_of, is_null};
+ghost use Rattle.cbor_span.specs.Opening.{opening};
 
 use cbor_heads::{Head, Input, Kind, read_head};
 

@@ -6,7 +6,7 @@ use Rattle.cbor_core.specs.declared.item.Item.{Item}
 use Rattle.cbor_core.specs.declared.item.Pair.{Pair}
 use Rattle.cbor_core.specs.declared.item.Item.TheVariants as i
 use Rattle.cbor_core.specs.Spelling.{HasRanges, Spells}
-use Rattle.cbor_core.specs.Views.{field, map_of}
+use Rattle.cbor_core.specs.Views.{field, map_of, negative_of}
 use Rattle.cose_core.specs.declared.sign1.Sign1.{Sign1}
 use Rattle.cose_core.specs.declared.fault.CoseFault.{CoseFault}
 use Rattle.cose_core.specs.declared.fault.CoseFault.TheVariants as faults
@@ -14,7 +14,7 @@ use Rattle.cose_core.specs.declared.labels.TheConstants.{ALG_HSS_LMS, HEADER_ALG
 use Rattle.cose_core.specs.Headers.{Wraps}
 use Rattle.cose_core.specs.Sign1.{untagged, tagged}
 use Rattle.cose_core.specs.Reading.{form_of, CheckedAs, ReadAs}
-use Rattle.cbor_core.proofs.Public.Views.{negative_of, negative_is, negative_back}
+use Rattle.cbor_core.proofs.Public.Views.{negative_is, negative_back}
 use Rattle.cbor_core.proofs.Public.Views.{map_is, map_back}
 use Rattle.cose_core.proofs.Forms.{form_is}
 use Rattle.cbor_core.proofs.Public.ExactlyOne.{exactly_one_whole}

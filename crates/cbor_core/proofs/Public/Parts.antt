@@ -9,11 +9,12 @@ use Rattle.cbor_core.specs.Spelling.{IsProperBy, IsProperWithin, IsProper}
 use Rattle.cbor_core.specs.Law.{PartsAreProper}
 
 module _ (P Q : Item → Type 0) (widen : (x : Item) → P x → Q x) where
-  members_widen : (xs : List Item) → AllByRecursion P xs → AllByRecursion Q xs
+  -- what holds of each member, widened
+  pub members_widen : (xs : List Item) → AllByRecursion P xs → AllByRecursion Q xs
   members_widen [] all = tt
   members_widen (x ∷ xs) all = (widen x all.0, members_widen xs all.1)
 
-  pairs_widen : (ps : List Pair) → AllByRecursion (λ p. P p.key × P p.value) ps → AllByRecursion (λ p. Q p.key × Q p.value) ps
+  pub pairs_widen : (ps : List Pair) → AllByRecursion (λ p. P p.key × P p.value) ps → AllByRecursion (λ p. Q p.key × Q p.value) ps
   pairs_widen [] all = tt
   pairs_widen (p ∷ ps) all = ((widen p.key all.0.0, widen p.value all.0.1), pairs_widen ps all.1)
 

@@ -7,24 +7,17 @@ use Rattle.cbor_core.specs.declared.item.Item.{Item, out-Item}
 use Rattle.cbor_core.specs.declared.item.Pair.{Pair}
 use Rattle.cbor_core.specs.declared.item.Item.TheOpen.{Item-F}
 use Rattle.cbor_core.specs.declared.item.Item.TheVariants as i
+use Rattle.cbor_core.proofs.Public.Parts.{members_widen, pairs_widen}
 use Rattle.cbor_core.specs.Spelling.{IsInRangeBy, HasRangesWithin, HasRanges}
 
 module _ (P Q : Item → Type 0) (narrow : (x : Item) → P x → Q x) where
-  members : (xs : List Item) → AllByRecursion P xs → AllByRecursion Q xs
-  members [] all = tt
-  members (x ∷ xs) all = (narrow x all.0, members xs all.1)
-
-  pairs : (ps : List Pair) → AllByRecursion (λ p. P p.key × P p.value) ps → AllByRecursion (λ p. Q p.key × Q p.value) ps
-  pairs [] all = tt
-  pairs (p ∷ ps) all = ((narrow p.key all.0.0, narrow p.value all.0.1), pairs ps all.1)
-
   level : (l : Item-F Item Pair) → IsInRangeBy P l → IsInRangeBy Q l
   level (Item-F.Unsigned n) r = r
   level (Item-F.Negative n) r = r
   level (Item-F.Bytes bytes) r = r
   level (Item-F.Text text) r = r
-  level (Item-F.Array xs) r = (members xs r.0, r.1)
-  level (Item-F.Map ps) r = (pairs ps r.0, r.1)
+  level (Item-F.Array xs) r = (members_widen P Q narrow xs r.0, r.1)
+  level (Item-F.Map ps) r = (pairs_widen P Q narrow ps r.0, r.1)
   level (Item-F.Tag n x) r = (narrow x r.0, r.1)
   level (Item-F.Truth b) r = tt
   level Item-F.Null r = tt

@@ -6,7 +6,7 @@ use Rattle.cbor_core.specs.declared.item.Pair.{Pair}
 use Rattle.cbor_core.specs.declared.item.Item.TheOpen.{Item-F}
 use Rattle.cbor_core.specs.declared.item.Item.TheViews.{roll-Item, roll-out-Item}
 use Rattle.cbor_core.specs.declared.item.Item.TheVariants as i
-use Rattle.cbor_core.specs.Views.{unsigned_by, unsigned_of, bytes_by, bytes_of, text_by, text_of, truth_by, truth_of, array_by, array_of, map_by, map_of, labelled_by}
+use Rattle.cbor_core.specs.Views.{unsigned_by, unsigned_of, bytes_by, bytes_of, text_by, text_of, truth_by, truth_of, array_by, array_of, map_by, map_of, negative_by, negative_of, labelled_by}
 
 module _ {V : Type 0} (view : Item-F Item Pair → Option V) (item : V → Item) (rolled : (l : Item-F Item Pair) (v : V) → view l ≡ Some v → roll-Item l ≡ item v) where
   pub by_layer : (x : Item) (v : V) → view (out-Item x) ≡ Some v → x ≡ item v
@@ -72,15 +72,6 @@ pub same_map : (ps qs : List Pair) → i.Map ps ≡ i.Map qs → ps ≡ qs
 same_map ps qs e = let both : Some ps ≡ Some qs = sym (map_back ps) ∙ ap map_of e ∙ map_back qs in cc
 
 -- ---- negative integers
-
--- the number of a negative integer, by its layer
-abbrev pub negative_by : Item-F Item Pair → Option ℕ
-negative_by (Item-F.Negative n) = Some n
-negative_by _ = None
-
--- the n of Negative(n), which is -1-n
-abbrev pub negative_of : Item → Option ℕ
-negative_of x = negative_by (out-Item x)
 
 negative_rolled : (l : Item-F Item Pair) (n : ℕ) → negative_by l ≡ Some n → roll-Item l ≡ i.Negative n
 negative_rolled (Item-F.Negative m) n e = let same : m ≡ n = cc in i.rolls-Negative m ∙ ap (λ (k : ℕ). i.Negative k) same

@@ -6,26 +6,18 @@ use Rattle.cbor_core.specs.declared.item.Item.TheOpen.{Item-F}
 use Rattle.cbor_core.specs.declared.item.Item.TheVariants as i
 use Rattle.cbor_core.specs.declared.item.Pair.{Pair}
 use Rattle.cbor_core.specs.Spelling.{IsSpellable, Spells, KeysAscend, spelling}
-use Rattle.cbor_core.proofs.Public.Parts.{parts_are_proper}
+use Rattle.cbor_core.proofs.Public.Parts.{parts_are_proper, members_widen, pairs_widen}
 use Rattle.cbor_core.proofs.Public.Levels.{IsWholeBy, to_spellable, from_spellable}
 use Rattle.cbor_span.specs.Parts.{HasSpelling, HaveSpellings}
 
 module _ (P Q : Item → Type 0) (widen : (x : Item) → P x → Q x) where
-  members_widen : (xs : List Item) → AllByRecursion P xs → AllByRecursion Q xs
-  members_widen [] all = tt
-  members_widen (x ∷ xs) all = (widen x all.0, members_widen xs all.1)
-
-  pairs_widen : (ps : List Pair) → AllByRecursion (λ p. P p.key × P p.value) ps → AllByRecursion (λ p. Q p.key × Q p.value) ps
-  pairs_widen [] all = tt
-  pairs_widen (p ∷ ps) all = ((widen p.key all.0.0, widen p.value all.0.1), pairs_widen ps all.1)
-
   level_widen : (room : Bool) (l : Item-F Item Pair) → IsWholeBy room P l → IsWholeBy true Q l
   level_widen room (Item-F.Unsigned n) h = h
   level_widen room (Item-F.Negative n) h = h
   level_widen room (Item-F.Bytes bytes) h = h
   level_widen room (Item-F.Text text) h = h
-  level_widen room (Item-F.Array xs) h = (refl, members_widen xs h.1, h.2)
-  level_widen room (Item-F.Map ps) h = (refl, pairs_widen ps h.1, h.2, h.3)
+  level_widen room (Item-F.Array xs) h = (refl, members_widen P Q widen xs h.1, h.2)
+  level_widen room (Item-F.Map ps) h = (refl, pairs_widen P Q widen ps h.1, h.2, h.3)
   level_widen room (Item-F.Tag n x) h = (refl, widen x h.1, h.2)
   level_widen room (Item-F.Truth b) h = tt
   level_widen room Item-F.Null h = tt

@@ -1,5 +1,5 @@
 -- Bytes give exactly one answer; and which bytes are which value, by the record of a codec.
-use Rattle.std.proofs.Common.{◌≡◌, ◌⊎◌, ℕ, List, length, refl, sym, ap, subst, ◌∙◌, inl, inr, arith}
+use Rattle.std.proofs.Common.{◌≡◌, ◌⊎◌, ℕ, List, refl, sym, ap, subst, ◌∙◌, inl, inr}
 use Rattle.std.specs.Prelude.{Result, Ok, Err, IfOk}
 use Rattle.base_types.specs.declared.memory.NoMemory.{NoMemory}
 use Rattle.cbor_core.specs.declared.item.Item.{Item}

@@ -1,13 +1,10 @@
 -- A wrapped item is one value at most, and is read as it was written.
 use Rattle.std.proofs.Common.{◌≡◌, ℕ, List, Option, Some, None, refl, ap, subst, ◌∙◌}
 use Rattle.std.specs.Prelude.{Result, Ok}
-use Rattle.cbor_core.specs.declared.item.Item.{Item, out-Item}
-use Rattle.cbor_core.specs.declared.item.Item.TheOpen.{Item-F}
+use Rattle.cbor_core.specs.declared.item.Item.{Item}
 use Rattle.cbor_core.specs.declared.item.Item.TheVariants as i
-use Rattle.cbor_core.specs.declared.item.Pair.{Pair}
 use Rattle.cbor_core.specs.Spelling.{spelling, Spells, HasRanges}
-use Rattle.base_types.specs.Bytes.{IsBytes}
-use Rattle.cbor_core.specs.Views.{bytes_by, bytes_of}
+use Rattle.cbor_core.specs.Views.{bytes_of}
 use Rattle.cbor_fields.specs.Written.{IsSpelled}
 use Rattle.cbor_core.proofs.Public.Views.{bytes_is}
 use Rattle.cbor_core.proofs.Public.Ranges.{bytes_in_range}
