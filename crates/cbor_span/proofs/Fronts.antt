@@ -5,7 +5,8 @@ use Rattle.cbor_heads.specs.declared.fault.Fault.{Fault}
 use Rattle.cbor_heads.specs.Place.{Place, start}
 use Rattle.cbor_core.specs.Reading.{item_at}
 use Rattle.cbor_core.specs.Law.{IsFaulty, IsFaultyWhole, OneItemWhole, OneFaultWhole}
-use Rattle.cbor_core.proofs.Public.Whole.{reads, refuses, whole_front, exactly_one_whole}
+use Rattle.cbor_core.proofs.Public.ExactlyOne.{exactly_one_whole}
+use Rattle.cbor_core.proofs.Public.Whole.{reads, refuses, whole_front}
 use Rattle.cbor_span.specs.Ending.{ending, LengthIs}
 use Rattle.cbor_span.specs.Span.{IsSpan}
 
