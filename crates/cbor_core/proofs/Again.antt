@@ -19,7 +19,7 @@ use Rattle.cbor_core.specs.Spelling.{spelling, spellings, pair_spelling, pair_sp
 use Rattle.cbor_heads.specs.Reading.{Reader, nested}
 use Rattle.cbor_core.specs.Reading.{part, items_at, pairs_at, content, item_by, item_at}
 use Rattle.cbor_core.proofs.Public.Spell.{spelling_Unsigned, spelling_Negative, spelling_Bytes, spelling_Text, spelling_Array, spelling_Map, spelling_Tag, spelling_Truth, spelling_Null, pair_spelling_out}
-use Rattle.cbor_heads.proofs.Public.Heads.{IsHead, head_again, head_short}
+use Rattle.cbor_heads.proofs.Public.Heads.{IsHead, head_again, head_short, plain}
 use Rattle.cbor_heads.proofs.Public.Places.{behind-append}
 use Rattle.cbor_core.proofs.Public.Levels.{IsWholeBy, from_spellable}
 
@@ -43,9 +43,6 @@ step_only inner major n x h is read before more =
     let q : Place = record { at = before + length (head major n); rest = more } in
     let place : q ≡ behind (before + length (head major n)) [] more = let e : before + length (head major n) ≡ before + length (head major n) + 0 = omega arith in ap (λ (k : ℕ). record { at = k; rest = more }) e in
     step inner major n before [] more x h (is ∙ sym (append-nil (head major n))) (read before q ∙ ap (λ (r : Place). Ok (x, r)) place)
-
-plain : (major n : ℕ) → major < 7 → n < 2 ^ 64 → IsHead major n
-plain major n small lt = record { below = lt; simple = λ seven. absurd (omega arith) }
 
 part_again : (at before : ℕ) (text more : List ℕ) → part at (length text) (record { at = before; rest = text ++ more }) ≡ Ok (text, behind before text more)
 unfolding part

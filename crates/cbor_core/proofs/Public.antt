@@ -1,4 +1,5 @@
 pub mod Spell
+pub mod Steps
 pub mod Levels
 pub mod Parts
 pub mod Ranges

@@ -10,6 +10,7 @@ use Rattle.cbor_core.specs.declared.item.Item.TheVariants as i
 use Rattle.cbor_core.specs.declared.item.Pair.{Pair}
 use Rattle.cbor_core.specs.Spelling.{bytes_below}
 use Rattle.cbor_core.specs.Reading.{items_at, pairs_at, array_at, map_at, tag_at}
+use Rattle.cbor_core.proofs.Public.Steps.{items_more, pair_more, pairs_more}
 use Rattle.cbor_span.specs.Ending.{ending}
 
 -- what is made of a value does not move the place
@@ -38,12 +39,6 @@ ended_err (Ok x) f e = absurd cc
 ended_err (Err g) f e = let is : g ≡ f = cc in ap (λ (h : Fault). Err h) is
 
 -- ---- members
-
--- one more item
-items_more : (inner : Reader Fault Item) (n k : ℕ) (found : List Item) (p : Place) → k < n
-    → items_at inner (n - k) found p ≡ (inner p >>= λ x. items_at inner (n - (k + 1)) (found ++ x.0 ∷ []) x.1)
-unfolding items_at
-items_more inner n k found p lt = let e : n - k ≡ suc (n - (k + 1)) = omega arith in rw e refl
 
 -- a step and then the others, whatever was found
 bind_same : {A B C : Type 0} (o : Outcome Fault A) (f : A × Place → Outcome Fault B) (g : A × Place → Outcome Fault C) → ((x : A × Place) → ending (f x) ≡ ending (g x))
@@ -74,17 +69,6 @@ unfolding items_at
 items_end inner n k p total le so_far = let e : n - k ≡ 0 = omega arith in sym so_far ∙ rw e refl
 
 -- ---- pairs
-
--- one more pair
-abbrev pub pair_more : Reader Fault Item → ℕ → List Pair → List ℕ → Place → Outcome Fault (List Pair)
-pair_more inner n found last p = inner p >>= λ key.
-    cond (bytes_below last (between p key.1)) (inner key.1 >>= λ value. pairs_at inner n (found ++ record { key = key.0; value = value.0 } ∷ []) (between p key.1) value.1)
-    (fault p.at why.KeyOrder)
-
-pairs_more : (inner : Reader Fault Item) (n k : ℕ) (found : List Pair) (last : List ℕ) (p : Place) → k < n
-    → pairs_at inner (n - k) found last p ≡ pair_more inner (n - (k + 1)) found last p
-unfolding pairs_at
-pairs_more inner n k found last p lt = let e : n - k ≡ suc (n - (k + 1)) = omega arith in rw e refl
 
 test_same : {A : Type 0} (b : Bool) (x y z : Outcome Fault A) → ending x ≡ ending y → ending (cond b x z) ≡ ending (cond b y z)
 test_same true x y z e = e

@@ -8,7 +8,7 @@ use Rattle.cbor_heads.specs.Place.{Place, start, between}
 use Rattle.cbor_heads.specs.Head.{head, kind_of}
 use Rattle.cbor_heads.specs.Reading.{Outcome, inside}
 use Rattle.cbor_heads.specs.HeadReading.{head_at}
-use Rattle.cbor_heads.proofs.Public.Heads.{IsHead, head_again, head_short}
+use Rattle.cbor_heads.proofs.Public.Heads.{IsHead, head_again, head_short, plain}
 use Rattle.cbor_heads.proofs.Public.Depths.{nested_is}
 use Rattle.cbor_core.specs.declared.item.Item.{Item, out-Item}
 use Rattle.cbor_core.specs.declared.item.Item.TheOpen.{Item-F}
@@ -29,9 +29,6 @@ use Rattle.cbor_span.proofs.Fronts.{ends_behind, place_is, place_not_fault, span
 -- what the reader of heads finds, where more bytes stand behind the item
 abbrev pub Opens : Head × List ℕ → List ℕ → Outcome Fault Head → Type 0
 Opens o more r = (n : ℕ) × (r ≡ Ok (o.0, record { at = n; rest = o.1 ++ more }))
-
-plain : (major n : ℕ) → major < 7 → n < 2 ^ 64 → IsHead major n
-plain major n small lt = record { below = lt; simple = λ seven. absurd (omega arith) }
 
 by_head : (major n : ℕ) (text more bytes : List ℕ) → IsHead major n → bytes ≡ (head major n ++ text) ++ more → Opens (record { kind = kind_of major; argument = n }, text) more (head_at (start bytes))
 by_head major n text more bytes h is = (0 + length (head major n), ap (λ (t : List ℕ). head_at (start t)) (is ∙ append_assoc (head major n) text more) ∙ head_again major n 0 (text ++ more) h)
