@@ -75,7 +75,7 @@ content_reply anchors envelope (Some payload) are = elim (signed_or_not anchors 
 bytes_reply : (anchors : Anchors) (bytes : List ℕ) → IsBytes bytes → (reply : Frame) × Answers anchors (Message bytes) reply
 bytes_reply anchors bytes are = elim (envelope_or_refused bytes are) [
   | inl one ↦ (let reply = content_reply anchors one.value one.value.payload (payload_is_bytes bytes one.value one.is) in
-    (reply.0, inl (record { envelope = one.value; envelope_is = one.is; answers = reply.1 })))
+      (reply.0, inl (record { envelope = one.value; envelope_is = one.is; answers = reply.1 })))
   | inr none ↦ (refusal_frame NotCose, inr (record { fault = none.fault; refused = none.refused; reply_is = refl }))
 ]
 

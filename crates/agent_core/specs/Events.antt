@@ -12,5 +12,6 @@ event_by kind body =
     else if (kind == 3) && (length body == 0) then FetchFailed
     else Strange
 
+-- what a frame in brings
 abbrev pub event_in : Frame → Event
 event_in f = event_by f.kind f.body

@@ -3,6 +3,7 @@ use Rattle.std.specs.Prelude.{ℕ}
 use Rattle.agent_core.specs.declared.refusal.Refusal.{Refusal}
 use Rattle.agent_core.specs.declared.refusal.Refusal.TheVariants.{Kind, NotCose, NotSigned, NotMessage, NotForAgent}
 
+-- the number by which a refusal is told
 abbrev pub number_of : Refusal → ℕ
 number_of Kind = 1
 number_of NotCose = 2

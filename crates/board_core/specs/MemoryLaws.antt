@@ -8,6 +8,7 @@ use Rattle.board_core.specs.ReplayLaws.{Sound, sound, sound_fresh, left_now, now
 use Rattle.board_core.specs.History.{state_of, seen}
 use Rattle.board_core.specs.declared.history.History.{History}
 
+-- the calls of a history lead to a sound state
 pub sound_here : (h : History) → Sound (length h.first) (state_of h)
 sound_here h = sound (length h.first) (fresh h.first) h.calls h.puts_fit (sound_fresh h.first)
 

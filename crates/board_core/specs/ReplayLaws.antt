@@ -10,19 +10,23 @@ use Rattle.board_core.specs.Replay.{State, fresh, done, step, replay, Between, I
 use Rattle.board_core.specs.declared.call.Call.{Call}
 use Rattle.board_core.specs.declared.call.Call.TheVariants.{Read, Send, Load, Put, Sync}
 
+-- one more call is one more step
 pub replay-push : (s : State) (cs : List Call) (c : Call) → replay s (cs ++ c ∷ []) ≡ step (replay s cs) c
 replay-push s [] c = refl
 replay-push s (d ∷ ds) c = replay-push (step s d) ds c
 
+-- what may be left from now on stands between two calls
 pub left_now : (s : State) (cs : List Call) (sent image : List ℕ) → LeftFrom s cs (length cs) sent image → Between (replay s cs) sent image
 left_now s [] sent image left = left
 left_now s (d ∷ ds) sent image left = left_now (step s d) ds sent image left
 
+-- what stands between two calls may be left since any moment
 pub now_left : (s : State) (cs : List Call) (t : ℕ) (sent image : List ℕ) → Between (replay s cs) sent image → LeftFrom s cs t sent image
 now_left s [] t sent image now = now
 now_left s (d ∷ ds) zero sent image now = inr (now_left (step s d) ds zero sent image now)
 now_left s (d ∷ ds) (suc t) sent image now = now_left (step s d) ds t sent image now
 
+-- what may be left since a moment may be left since an earlier one
 pub left_earlier : (s : State) (cs : List Call) (t u : ℕ) (sent image : List ℕ) → t ≤ u → LeftFrom s cs u sent image → LeftFrom s cs t sent image
 left_earlier s [] t u sent image le left = left
 left_earlier s (d ∷ ds) zero zero sent image le left = left
@@ -40,6 +44,7 @@ left_pushed s (d ∷ ds) c zero sent image le left = elim left [
 ]
 left_pushed s (d ∷ ds) c (suc t) sent image le left = left_pushed (step s d) ds c t sent image (omega arith) left
 
+-- bytes are the same outside of any place
 pub torn_same : (at n : ℕ) (l : List ℕ) → SameOutside at n l l
 torn_same at n l = record { length_kept = refl; before = refl; behind = refl }
 
@@ -89,6 +94,7 @@ pub record Sound (size : ℕ) (s : State) : Type 0 where
 drop_front : (front back : List ℕ) (i m : ℕ) → i ≡ length front + m → drop i (front ++ back) ≡ drop m back
 drop_front front back i m is = ap (λ (k : ℕ). drop k (front ++ back)) is ∙ drop-append-add front back m
 
+-- bytes that are written change nothing outside of their place
 pub written_torn : (image : List ℕ) (at n : ℕ) (bytes : List ℕ) → at + n ≤ length image → length bytes ≤ n → SameOutside at n image (written image at bytes)
 written_torn image at n bytes fit short =
     let k = length bytes in
@@ -100,20 +106,25 @@ written_torn image at n bytes fit short =
           ∙ drop-drop (n - k) (at + k) image ∙ ap (λ (j : ℕ). drop j image) (let j : at + k + (n - k) ≡ at + n = omega arith in j);
     }
 
+-- no more bytes are done than were asked for
 pub done_short : (ok : Bool) (bytes : List ℕ) → length (done ok bytes) ≤ length bytes
 done_short true bytes = omega arith
 done_short false bytes = simp length-take (omega arith)
 
+-- a test that says so
 pub le_of : (a b : ℕ) → leb a b ≡ true → a ≤ b
 le_of a b h = grind (arith, nat_tests)
 
+-- both tests of a pair hold
 pub and_true : (a b : Bool) → (a && b) ≡ true → (a ≡ true) × (b ≡ true)
 and_true true b h = (refl, h)
 and_true false b h = absurd (let no : false ≡ true = h in cc)
 
+-- a new board is sound
 pub sound_fresh : (image : List ℕ) → Sound (length image) (fresh image)
 sound_fresh image = record { stands = refl; only = λ clean after is. is; measured = refl }
 
+-- a call within the image leaves a sound state sound
 pub sound_step : (size : ℕ) (s : State) (c : Call) → IsTrue (fits size c) → Sound size s → Sound size (step s c)
 sound_step size s (Read ok) fit sound = sound
 sound_step size s (Send bytes ok) fit sound = record { stands = sound.stands; only = sound.only; measured = sound.measured }
@@ -129,6 +140,7 @@ sound_step size s (Put at bytes ok) fit sound =
 sound_step size s (Sync true) fit sound = record { stands = refl; only = λ clean after is. is; measured = sound.measured }
 sound_step size s (Sync false) fit sound = sound
 
+-- and so do all calls of a list
 pub sound : (size : ℕ) (s : State) (cs : List Call) → IsTrue (all_fit size cs) → Sound size s → Sound size (replay s cs)
 sound size s [] fit start = start
 sound size s (d ∷ ds) fit start = let both = and_true (fits size d) (all_fit size ds) fit in sound size (step s d) ds both.1 (sound_step size s d both.0 start)

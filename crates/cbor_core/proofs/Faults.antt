@@ -81,7 +81,8 @@ module _ (inner : Reader Fault Item) (P : Item → Type 0) (F : Place → Fault 
               more = later.more;
               fewer = omega (arith, later.fewer);
               proper = (one.1, later.proper);
-              spelled = one.0.rest ∙ ap (λ (t : List ℕ). spelling x.0 ++ t) later.spelled ∙ sym (append_assoc (spelling x.0) (spellings later.members) later.more) ∙ ap (λ (t : List ℕ). t ++ later.more) (sym (flat_map-cons spelling x.0 later.members));
+              spelled = one.0.rest ∙ ap (λ (t : List ℕ). spelling x.0 ++ t) later.spelled ∙ sym (append_assoc (spelling x.0) (spellings later.members) later.more)
+                  ∙ ap (λ (t : List ℕ). t ++ later.more) (sym (flat_map-cons spelling x.0 later.members));
               next = subst (λ (q : Place). F q f) (behind_then p (spelling x.0) x.1 (spellings later.members) later.more one.0.at ∙ ap (λ (t : List ℕ). behind p.at t later.more) (sym (flat_map-cons spelling x.0 later.members))) later.next;
             }
       ]
@@ -91,7 +92,8 @@ module _ (inner : Reader Fault Item) (P : Item → Type 0) (F : Place → Fault 
       → bytes_below last (spelling x) ≡ true → MapFault P F n (spelling x) r f → MapFault P F (suc n) last p f
   later_pair n last p f x q y r one two px py order later =
       let pair : Pair = record { key = x; value = y } in
-      let spelled : pair_spellings (pair ∷ later.pairs) ≡ (spelling x ++ spelling y) ++ pair_spellings later.pairs = flat_map-cons pair_spelling pair later.pairs ∙ ap (λ (t : List ℕ). t ++ pair_spellings later.pairs) (pair_spelling_out pair) in
+      let spelled : pair_spellings (pair ∷ later.pairs) ≡ (spelling x ++ spelling y) ++ pair_spellings later.pairs = flat_map-cons pair_spelling pair later.pairs
+      ∙ ap (λ (t : List ℕ). t ++ pair_spellings later.pairs) (pair_spelling_out pair) in
       let bytes : p.rest ≡ (spelling x ++ spelling y) ++ r.rest = one.rest ∙ ap (λ (t : List ℕ). spelling x ++ t) two.rest ∙ sym (append_assoc (spelling x) (spelling y) r.rest) in
       let at : r.at ≡ p.at + length (spelling x ++ spelling y) = omega (arith, one.at, two.at, length-append (spelling x) (spelling y)) in
       let place : behind r.at (pair_spellings later.pairs) later.more ≡ behind p.at (pair_spellings (pair ∷ later.pairs)) later.more
@@ -141,7 +143,8 @@ module _ (inner : Reader Fault Item) (P : Item → Type 0) (F : Place → Fault 
                           proper = tt;
                           ascend = tt;
                           spelled = refl;
-                          next = inr (subst (λ (q : Place). AfterKey P F last q f) (sym (behind_here p)) (record { key = x.0; more = x.1.rest; proper = one.1; spelled = one.0.rest; next = inr (order, subst (λ (q : Place). F q f) (sym after) (refuses x.1 f one.0.fits stop)) }));
+                          next = inr (subst (λ (q : Place). AfterKey P F last q f) (sym (behind_here p)) (record
+                              { key = x.0; more = x.1.rest; proper = one.1; spelled = one.0.rest; next = inr (order, subst (λ (q : Place). F q f) (sym after) (refuses x.1 f one.0.fits stop)) }));
                         }
                     | inr more ↦
                         let y = more.0 in

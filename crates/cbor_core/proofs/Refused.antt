@@ -70,7 +70,8 @@ module _ (inner : Reader Fault Item) (P : Item → Type 0) (F : Place → Fault 
       let bytes : spellings (x ∷ xs) ++ more ≡ spelling x ++ (spellings xs ++ more) = ap (λ (t : List ℕ). t ++ more) (flat_map-cons spelling x xs) ∙ append_assoc (spelling x) (spellings xs) more in
       let one = law x each.0 before (spellings xs ++ more) in
       let others = items_prefix xs (found ++ x ∷ []) n (before + length (spelling x)) more each.1 in
-      let place : behind (before + length (spelling x)) (spellings xs) more ≡ behind before (spellings (x ∷ xs)) more = behind-append before (spelling x) (spellings xs) more ∙ ap (λ (t : List ℕ). behind before t more) (sym (flat_map-cons spelling x xs)) in
+      let place : behind (before + length (spelling x)) (spellings xs) more ≡ behind before (spellings (x ∷ xs)) more = behind-append before (spelling x) (spellings xs) more
+      ∙ ap (λ (t : List ℕ). behind before t more) (sym (flat_map-cons spelling x xs)) in
       ap (λ (c : ℕ). items_at inner c found (record { at = before; rest = spellings (x ∷ xs) ++ more })) count
       ∙ ap (λ (t : List ℕ). items_at inner (suc (length xs + n)) found (record { at = before; rest = t })) bytes
       ∙ (rw one others)
@@ -103,12 +104,14 @@ module _ (inner : Reader Fault Item) (P : Item → Type 0) (F : Place → Fault 
       let value = spelling p.value in
       let rest = pair_spellings ps ++ more in
       let pair : pair_spelling p ≡ key ++ value = pair_spelling_out p in
-      let bytes : pair_spellings (p ∷ ps) ++ more ≡ key ++ (value ++ rest) = ap (λ (t : List ℕ). t ++ more) (flat_map-cons pair_spelling p ps) ∙ append_assoc (pair_spelling p) (pair_spellings ps) more ∙ ap (λ (t : List ℕ). t ++ rest) pair ∙ append_assoc key value rest in
+      let bytes : pair_spellings (p ∷ ps) ++ more ≡ key ++ (value ++ rest) = ap (λ (t : List ℕ). t ++ more) (flat_map-cons pair_spelling p ps) ∙ append_assoc (pair_spelling p) (pair_spellings ps) more
+      ∙ ap (λ (t : List ℕ). t ++ rest) pair ∙ append_assoc key value rest in
       let one = law p.key each.0.0 before (value ++ rest) in
       let two = law p.value each.0.1 (before + length key) rest in
       let others = pairs_prefix ps (found ++ p ∷ []) key n (before + length key + length value) more each.1 ascend.1 in
       let place : behind (before + length key + length value) (pair_spellings ps) more ≡ behind before (pair_spellings (p ∷ ps)) more =
-      (let e : before + length key + length value + length (pair_spellings ps) ≡ before + length (pair_spelling p ++ pair_spellings ps) = omega (arith, length-append (pair_spelling p) (pair_spellings ps), ap length pair, length-append key value) in
+      (let e : before + length key + length value + length (pair_spellings ps) ≡ before + length (pair_spelling p ++ pair_spellings ps) = omega
+      (arith, length-append (pair_spelling p) (pair_spellings ps), ap length pair, length-append key value) in
       ap (λ (m : ℕ). record { at = m; rest = more }) e ∙ ap (λ (t : List ℕ). behind before t more) (sym (flat_map-cons pair_spelling p ps))) in
       ap (λ (c : ℕ). pairs_at inner c found last (record { at = before; rest = pair_spellings (p ∷ ps) ++ more })) count
       ∙ ap (λ (t : List ℕ). pairs_at inner (suc (length ps + n)) found last (record { at = before; rest = t })) bytes

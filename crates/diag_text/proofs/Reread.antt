@@ -93,7 +93,8 @@ module _ (inner : Option (Reader ℕ Item)) where
       (let text : List ℕ = flat_map escaped bytes in
       let long = flat_long escaped (λ v. text_some_by v (form_of v)) bytes in
       let room : length bytes < length (text ++ (codes "\"" ++ more)) = omega (arith, long, length-append text (codes "\"" ++ more)) in
-      let read = pieces_again escaped text_guess (codes "\"") (λ v. Unit {0}) (λ v good more. text_back_by v (form_of v) more) (λ v good more. text_open_by v (form_of v) more) b bytes [] (length (text ++ (codes "\"" ++ more))) (b + 1) more each room in
+      let read = pieces_again escaped text_guess (codes "\"") (λ v. Unit {0}) (λ v good more. text_back_by v (form_of v) more) (λ v good more. text_open_by v (form_of v) more) b bytes [] (length (text ++ (codes "\"" ++ more)))
+      (b + 1) more each room in
       let len : b + 1 + length (text ++ codes "\"") ≡ b + length (codes "\"" ++ (text ++ codes "\"")) = omega arith in
       let step : item_by inner (place b (codes "\"" ++ (text ++ (codes "\"" ++ more)))) ≡ Ok (i.Text bytes, place (b + 1 + length (text ++ codes "\"")) more) = rw (read, is_utf8-from_IsUtf8 bytes utf8) refl in
       ap (λ (t : List ℕ). item_by inner (place b (codes "\"" ++ t))) (append_assoc text (codes "\"") more) ∙ step ∙ ap (λ (k : ℕ). Ok (i.Text bytes, place k more)) len))

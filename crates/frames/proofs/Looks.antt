@@ -30,7 +30,8 @@ unfolding four_bytes
 said n bytes is = is
 
 -- behind a head that is whole and says this length
-module _ (limit most size : ℕ) (head : List ℕ) (old mid : Stream) (size_fits : size < 2 ^ 32) (five_long : length head ≡ 5) (spelt : four_bytes size ≡ get_or head 1 0 ∷ get_or head 2 0 ∷ get_or head 3 0 ∷ get_or head 4 0 ∷ []) (first : Took head old mid) where
+module _ (limit most size : ℕ) (head : List ℕ) (old mid : Stream) (size_fits : size < 2 ^ 32) (five_long : length head ≡ 5) (spelt : four_bytes size ≡ get_or head 1 0 ∷ get_or head 2 0 ∷ get_or head 3 0 ∷ get_or head 4 0 ∷ [])
+    (first : Took head old mid) where
   says : head ≡ get_or head 0 0 ∷ four_bytes size
   says = five head five_long ∙ ap (λ (l : List ℕ). get_or head 0 0 ∷ l) (sym spelt)
 

@@ -2,6 +2,7 @@
 use Rattle.std.specs.Prelude.{◌++◌, List, ◌∷◌, ℕ, length}
 use Rattle.std.specs.Int.{to_be_bytes, w32}
 
+-- a kind and a body
 pub record Frame : Type 0 where
   pub kind : ℕ
   pub body : List ℕ

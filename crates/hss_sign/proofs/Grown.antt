@@ -21,7 +21,8 @@ power_some zero = omega arith
 power_some (suc a) = let some = power_some a in omega (arith, some)
 
 -- each node at its number
-pub node_is : (params : KeyParams) (tree : TreeSecret) (nodes : List (List ℕ)) → IsGrown params tree nodes → (level up node : ℕ) → level + up ≡ params.height → 2 ^ up ≤ node → node < 2 ^ suc up → slice_index_or nodes node [] ≡ tree_node tree.identifier (leaf_at params tree) level node
+pub node_is : (params : KeyParams) (tree : TreeSecret) (nodes : List (List ℕ)) → IsGrown params tree nodes → (level up node : ℕ) → level + up ≡ params.height → 2 ^ up ≤ node → node < 2 ^ suc up
+    → slice_index_or nodes node [] ≡ tree_node tree.identifier (leaf_at params tree) level node
 unfolding tree_node
 node_is params tree nodes grown zero up node top low high =
     let same : up ≡ params.height = omega (arith, top) in
@@ -89,7 +90,8 @@ sibling_inside h level node less at =
 
 -- what is left of a path begins with the sibling
 pub path_next : (params : KeyParams) (tree : TreeSecret) (nodes : List (List ℕ)) → IsGrown params tree nodes → (level node : ℕ) → level < params.height → Stands params.height level node
-    → concat (path_above tree.identifier (leaf_at params tree) level node (params.height - level)) ≡ slice_index_or nodes (sibling node) [] ++ concat (path_above tree.identifier (leaf_at params tree) (level + 1) (node / 2) (params.height - (level + 1)))
+    → concat (path_above tree.identifier (leaf_at params tree) level node (params.height - level)) ≡ slice_index_or nodes (sibling node) [] ++ concat
+    (path_above tree.identifier (leaf_at params tree) (level + 1) (node / 2) (params.height - (level + 1)))
 unfolding path_above
 path_next params tree nodes grown level node less at =
     let up = up_from params.height level less in

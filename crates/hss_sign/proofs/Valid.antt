@@ -95,7 +95,8 @@ leaf_is : (identifier : List ℕ) (leaf : ℕ → List ℕ) (node : ℕ) → lea
 unfolding tree_node
 leaf_is identifier leaf node = refl
 
-root_of : (params : KeyParams) (tree : TreeSecret) (q : ℕ) (message : List ℕ) → q < 2 ^ params.height → root_candidate (tree_public params tree) message (tree_signature params tree q message) ≡ tree_node tree.identifier (leaf_at params tree) params.height 1
+root_of : (params : KeyParams) (tree : TreeSecret) (q : ℕ) (message : List ℕ) → q < 2 ^ params.height
+    → root_candidate (tree_public params tree) message (tree_signature params tree q message) ≡ tree_node tree.identifier (leaf_at params tree) params.height 1
 unfolding root_candidate
 root_of params tree q message inside =
     let h = params.height in
@@ -122,7 +123,8 @@ fits params tree q message inside = record {
   node_lengths = path_hashes params tree 0 (2 ^ params.height + q) params.height;
 }
 
-pub tree_signs : (params : KeyParams) (tree : TreeSecret) (q : ℕ) (message : List ℕ) → IsProperParams params → length tree.identifier ≡ 16 → q < 2 ^ params.height → LmsValid (public_key_bytes (tree_public params tree)) message (signature_bytes (tree_signature params tree q message))
+pub tree_signs : (params : KeyParams) (tree : TreeSecret) (q : ℕ) (message : List ℕ) → IsProperParams params → length tree.identifier ≡ 16 → q < 2 ^ params.height
+    → LmsValid (public_key_bytes (tree_public params tree)) message (signature_bytes (tree_signature params tree q message))
 tree_signs params tree q message proper size inside = record {
   key = tree_public params tree;
   public_key = record { known = known params tree proper size; spelled = refl };
@@ -166,7 +168,8 @@ alone params n one inside =
     let same : 2 ^ (1 * params.height) ≡ 2 ^ params.height = ap (λ (m : ℕ). 2 ^ m) (omega arith) in
     omega (arith, k, same)
 
-valid_by : (params : KeyParams) (seed : List ℕ) (n : ℕ) (message : List ℕ) → IsProperParams params → n < capacity params → (params.levels ≡ 1) ⊎ (params.levels ≡ 2) → HssValid (public_of params seed) message (signature_of params seed n message)
+valid_by : (params : KeyParams) (seed : List ℕ) (n : ℕ) (message : List ℕ) → IsProperParams params → n < capacity params → (params.levels ≡ 1) ⊎ (params.levels ≡ 2)
+    → HssValid (public_of params seed) message (signature_of params seed n message)
 unfolding signature_of signed_key is_public
 valid_by params seed n message proper inside (inl one) = record {
   public_key = is_public params seed proper;

@@ -18,6 +18,7 @@ lms_type p = if p.height == 5 then 5 else 6
 abbrev pub ots_type : KeyParams → ℕ
 ots_type p = if p.width == 4 then 3 else 4
 
+-- the one-time parameters of a width (RFC 8554, 4.1)
 abbrev pub ots_params : KeyParams → OtsParams
 ots_params p = if p.width == 4 then width_4 else width_8
 

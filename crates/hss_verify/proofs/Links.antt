@@ -66,7 +66,8 @@ linked_at Signs key n len bytes message link size =
     let by_rest : bytes ≡ (link.signature ++ link.next) ++ link.rest = link.spelled ∙ simp append_assoc in
     let signature : take len bytes ≡ link.signature = ap (take len) link.spelled ∙ take_at link.signature (link.next ++ link.rest) len size in
     let next : slice_range bytes len (len + 56) ≡ link.next = ap (λ (x : List ℕ). slice_range x len (len + 56)) link.spelled ∙ part_at link.signature link.next link.rest len (len + 56) size (omega arith) in
-    let rest : slice_range bytes (len + 56) (length bytes) ≡ link.rest = ap (λ (x : List ℕ). slice_range x (len + 56) (length bytes)) by_rest ∙ back_at (link.signature ++ link.next) link.rest (len + 56) (length bytes) front_size (omega arith) in
+    let rest : slice_range bytes (len + 56) (length bytes) ≡ link.rest = ap (λ (x : List ℕ). slice_range x (len + 56) (length bytes)) by_rest
+    ∙ back_at (link.signature ++ link.next) link.rest (len + 56) (length bytes) front_size (omega arith) in
     record {
       room = omega arith;
       valid = rw (next, signature) link.valid;

@@ -21,6 +21,7 @@ pub record Link : Type 0 where
   pub signature : List ℕ
   pub key : List ℕ
 
+-- a signature, and then the key that it signs
 abbrev pub link_bytes : Link → List ℕ
 link_bytes link = link.signature ++ link.key
 

@@ -59,7 +59,8 @@ module _ (journal : Kept) (old : View) (bodies : List (List ℕ)) (fits : Fits j
     gate_here = gate_is ∙ ap (λ (k : ℕ). begins journal + k) fits.keeps.used
 
     tail_outside : SameOutside region.at size old.now.disk.bytes (written old.now.disk.bytes (gate + 1) tail)
-    tail_outside = outside_written region.at size (gate + 1) old.now.disk.bytes tail (omega (arith, gate_is, after_selector journal.second)) (omega (arith, gate_is, room, half_inside region journal.second)) (omega (arith, gate_is, room, half_here journal.second))
+    tail_outside = outside_written region.at size (gate + 1) old.now.disk.bytes tail (omega (arith, gate_is, after_selector journal.second)) (omega (arith, gate_is, room, half_inside region journal.second))
+        (omega (arith, gate_is, room, half_here journal.second))
 
     module _ (body : List ℕ) (tail_is : 0xa5 ∷ tail ≡ frame body ++ 0 ∷ []) (is_body : IsBody body) where
       moved : (new : List ℕ) → SameOutside gate 1 (written old.now.disk.bytes (gate + 1) tail) new → SameOutside (begins journal + length (frames bodies)) 1 (written old.now.disk.bytes (begins journal + length (frames bodies) + 1) tail) new
@@ -82,7 +83,8 @@ module _ (journal : Kept) (old : View) (bodies : List (List ℕ)) (fits : Fits j
       }
       append_either sent image (sent_same, inr same) = record {
         sent_same = sent_same;
-        outside = outside_trans tail_outside (outside_wider region.at size gate 1 (written old.now.disk.bytes (gate + 1) tail) image (omega (arith, gate_is, after_selector journal.second)) (omega (arith, gate_is, room, half_inside region journal.second)) same);
+        outside = outside_trans tail_outside (outside_wider region.at size gate 1 (written old.now.disk.bytes (gate + 1) tail) image (omega (arith, gate_is, after_selector journal.second))
+            (omega (arith, gate_is, room, half_inside region journal.second)) same);
         either = elim (gated (begins journal) region.half old.now.disk.bytes bodies here body tail tail_is is_body room_here (half_here journal.second) image (moved image same)) [
           | inl stands ↦ inl (region_stands region journal.second image bodies (gate_selector image same) stands)
           | inr stands ↦ inr (region_stands region journal.second image (bodies ++ body ∷ []) (gate_selector image same) stands)
@@ -95,7 +97,8 @@ module _ (journal : Kept) (old : View) (bodies : List (List ℕ)) (fits : Fits j
           let same : SameOutside gate 1 (written old.now.disk.bytes (gate + 1) tail) image = subst (λ (l : List ℕ). SameOutside gate 1 (written old.now.disk.bytes (gate + 1) tail) l) (sym is)
           (outside_written gate 1 gate (written old.now.disk.bytes (gate + 1) tail) (0xa5 ∷ []) (omega arith) (omega arith) fit) in
           let byte : get_or image gate 0 ≡ 0xa5 = ap (λ (l : List ℕ). get_or l gate 0) is ∙ written-byte (written old.now.disk.bytes (gate + 1) tail) gate 0xa5 fit in
-          let stands : HalfStands (begins journal) region.half image (bodies ++ body ∷ []) = gate_open (begins journal) region.half old.now.disk.bytes bodies here body tail tail_is is_body room_here (half_here journal.second) image (moved image same)
+          let stands : HalfStands (begins journal) region.half image (bodies ++ body ∷ []) = gate_open (begins journal) region.half old.now.disk.bytes bodies here body tail tail_is is_body room_here (half_here journal.second)
+          image (moved image same)
           (ap (λ (k : ℕ). get_or image k 0) (sym gate_here) ∙ byte) in
           let selector : selected region image ≡ journal.second = gate_selector image same in
           let keeps = keeps_more journal new bodies body n fits.keeps long takes in
@@ -113,7 +116,8 @@ module _ (journal : Kept) (old : View) (bodies : List (List ℕ)) (fits : Fits j
     append_leaves (body ∷ other ∷ more) one tail_is sizes sent image within = absurd (omega (arith, one))
 
     pub append_done : (more : List (List ℕ)) → length more ≡ 1 → 0xa5 ∷ tail ≡ frames more ++ 0 ∷ [] → AreBodies more
-        → (new : Kept) (image : List ℕ) (lengths : List ℕ) → image ≡ written (written old.now.disk.bytes (gate + 1) tail) gate (0xa5 ∷ []) → map length more ≡ lengths → TakesIn (get_or lengths 0 0) journal new → Fits new image (bodies ++ more)
+        → (new : Kept) (image : List ℕ) (lengths : List ℕ) → image ≡ written (written old.now.disk.bytes (gate + 1) tail) gate (0xa5 ∷ []) → map length more ≡ lengths → TakesIn (get_or lengths 0 0) journal new
+        → Fits new image (bodies ++ more)
     append_done [] one tail_is sizes new image lengths is lengths_are takes = absurd (omega (arith, one))
     append_done (body ∷ []) one tail_is sizes new image lengths is lengths_are takes =
         append_fits body (tail_is ∙ ap (λ (l : List ℕ). l ++ 0 ∷ []) (append-nil (frame body))) sizes.0 new image (get_or lengths 0 0) is takes (ap (λ (l : List ℕ). get_or l 0 0) lengths_are)
@@ -150,7 +154,8 @@ module _ (journal : Kept) (old : View) (bodies : List (List ℕ)) (fits : Fits j
     module _ (image : List ℕ) (same : SameOutside region.at 1 (written old.now.disk.bytes other_at bytes) image) where
       selected_old : selected region image ≡ journal.second → RegionStands region image bodies
       selected_old selector = region_stands region journal.second image bodies selector
-          (stands_elsewhere (begins journal) region.half (written old.now.disk.bytes other_at bytes) bodies (old_stands (written old.now.disk.bytes other_at bytes) whole_outside) region.at 1 image same (inr (omega (arith, after_selector journal.second))))
+          (stands_elsewhere (begins journal) region.half (written old.now.disk.bytes other_at bytes) bodies (old_stands (written old.now.disk.bytes other_at bytes) whole_outside) region.at 1 image same
+          (inr (omega (arith, after_selector journal.second))))
 
       selected_new : selected region image ≡ not journal.second → RegionStands region image news
       selected_new selector = region_stands region (not journal.second) image news selector

@@ -115,7 +115,8 @@ longer image bodies before more room whole sizes long open_ s =
     record {
       body = body;
       rest = rest;
-      whole = whole ∙ ap (λ (l : List ℕ). before ++ (frames bodies ++ l)) more_is ∙ ap (λ (l : List ℕ). before ++ l) (sym (append_assoc (frames bodies) (frame body) rest)) ∙ ap (λ (l : List ℕ). before ++ (l ++ rest)) (frames-more bodies body);
+      whole = whole ∙ ap (λ (l : List ℕ). before ++ (frames bodies ++ l)) more_is ∙ ap (λ (l : List ℕ). before ++ l) (sym (append_assoc (frames bodies) (frame body) rest))
+          ∙ ap (λ (l : List ℕ). before ++ (l ++ rest)) (frames-more bodies body);
       sizes = sizes-more bodies body sizes (subst (λ (k : ℕ). k < 2 ^ 32) (sym size) s.size);
       used = ap length (sym (frames-more bodies body)) ∙ (let k : length (frames bodies ++ frame body) ≡ length (frames bodies) + 5 + n = omega (arith, length-append (frames bodies) (frame body), length-frame body, size) in k);
     }

@@ -18,7 +18,8 @@ first_at body more before bodies at place =
     let image : before ++ (frames (body ∷ bodies) ++ more) ≡ front ++ (body ++ rest) = ap (λ (l : List ℕ). before ++ l) (behind_frame body bodies more) ∙ sym (append_assoc before (opening (length body)) (body ++ rest)) in
     record {
       within = omega (arith, ap length image, length-append front (body ++ rest), length-append body rest, long);
-      body = ap (λ (l : List ℕ). Some l) (sym (ap (λ (l : List ℕ). take (length body) (drop (at + 5) l)) image ∙ ap (λ (l : List ℕ). take (length body) l) (drop_at front (body ++ rest) (at + 5) long) ∙ take_at body rest (length body) refl));
+      body = ap (λ (l : List ℕ). Some l) (sym (ap (λ (l : List ℕ). take (length body) (drop (at + 5) l)) image ∙ ap (λ (l : List ℕ). take (length body) l) (drop_at front (body ++ rest) (at + 5) long)
+          ∙ take_at body rest (length body) refl));
     }
 
 -- each body lies at its place, where the bodies are framed from an offset on

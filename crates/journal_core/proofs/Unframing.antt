@@ -58,7 +58,8 @@ pub are_bodies : (bodies : List (List ℕ)) (lengths : List ℕ) → map length 
 are_bodies [] lengths same fit = tt
 are_bodies (body ∷ bodies) lengths same fit = (
   subst (λ (l : List ℕ). get_or l 0 0 < 2 ^ 32) (sym same) (fit 0),
-  are_bodies bodies (drop 1 lengths) (ap (λ (l : List ℕ). drop 1 l) same) (λ i. subst (λ (l : List ℕ). get_or l (suc i) 0 < 2 ^ 32) (let e : lengths ≡ length body ∷ drop 1 lengths = sym same ∙ ap (λ (l : List ℕ). length body ∷ l) (ap (λ (l : List ℕ). drop 1 l) same) in e) (fit (suc i))),
+  are_bodies bodies (drop 1 lengths) (ap (λ (l : List ℕ). drop 1 l) same) (λ i. subst (λ (l : List ℕ). get_or l (suc i) 0 < 2 ^ 32) (let e : lengths ≡ length body ∷ drop 1 lengths = sym same
+      ∙ ap (λ (l : List ℕ). length body ∷ l) (ap (λ (l : List ℕ). drop 1 l) same) in e) (fit (suc i))),
 )
 
 -- one body with its frame and the gate behind it

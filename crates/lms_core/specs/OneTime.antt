@@ -11,6 +11,7 @@ use Rattle.lms_core.specs.Chains.{chain}
 abbrev pub message_domain : List ℕ
 message_domain = 0x81 ∷ 0x81 ∷ []
 
+-- D_PBLC (RFC 8554, 7.1)
 abbrev pub public_key_domain : List ℕ
 public_key_domain = 0x80 ∷ 0x80 ∷ []
 

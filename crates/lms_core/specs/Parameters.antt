@@ -6,12 +6,15 @@ use Rattle.lms_core.specs.declared.parameters.OtsParams.{OtsParams}
 abbrev pub width_1 : OtsParams
 width_1 = record { w = 1; p = 265; ls = 7 }
 
+-- LMOTS_SHA256_N32_W2 (RFC 8554, 4.1)
 abbrev pub width_2 : OtsParams
 width_2 = record { w = 2; p = 133; ls = 6 }
 
+-- LMOTS_SHA256_N32_W4 (RFC 8554, 4.1)
 abbrev pub width_4 : OtsParams
 width_4 = record { w = 4; p = 67; ls = 4 }
 
+-- LMOTS_SHA256_N32_W8 (RFC 8554, 4.1)
 abbrev pub width_8 : OtsParams
 width_8 = record { w = 8; p = 34; ls = 0 }
 

@@ -7,6 +7,7 @@ use Rattle.lms_core.specs.Bytes.{u32_bytes}
 abbrev pub leaf_domain : List ℕ
 leaf_domain = 0x82 ∷ 0x82 ∷ []
 
+-- D_INTR (RFC 8554, 7.1)
 abbrev pub inner_domain : List ℕ
 inner_domain = 0x83 ∷ 0x83 ∷ []
 

@@ -13,9 +13,11 @@ use Rattle.teep_tool.specs.declared.memory_host.MemoryHost.{MemoryHost}
 abbrev pub file_in : List Named → List ℕ → Option (List ℕ)
 file_in files name = option_map (λ file. file.bytes) (find (λ file. pointwise nat_eq file.name name) files)
 
+-- what a host in memory holds
 abbrev pub contents : MemoryHost → Contents
 contents m = record { files = file_in m.files; printed = string_bytes m.printed }
 
+-- how many of its calls failed
 abbrev pub faults_of : MemoryHost → ℕ
 faults_of m = m.faults
 

@@ -28,6 +28,7 @@ LineOutcome NoMemory bytes before now = now ≡ before
 LineOutcome Usage bytes before now = ⊥
 LineOutcome LongFile bytes before now = ⊥
 
+-- bytes were shown, or refused, by one line; no file changed
 pub record ShowedBytes (bytes : List ℕ) (status : Status) (old new : Contents) : Type 0 where
   pub files : new.files ≡ old.files
   pub outcome : LineOutcome status bytes old.printed new.printed

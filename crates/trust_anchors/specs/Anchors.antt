@@ -20,6 +20,7 @@ abbrev pub keys_of : Role → Anchors → List (List ℕ)
 keys_of role.Manager v = v.manager
 keys_of role.Author v = v.author
 
+-- the item is a byte string
 abbrev pub IsString : Item → Type 0
 IsString x = (bytes : List ℕ) × (x ≡ i.Bytes bytes)
 
@@ -33,9 +34,11 @@ pub record Wraps (public : List ℕ) (x : Item) : Type 0 where
   pub same : key.public ≡ public
   pub known : IsHssPublic public
 
+-- the item wraps some key
 abbrev pub IsGood : Item → Type 0
 IsGood x = (public : List ℕ) × Wraps public x
 
+-- the item wraps no key
 abbrev pub IsBad : Item → Type 0
 IsBad x = (public : List ℕ) → Wraps public x → ⊥
 
@@ -69,12 +72,14 @@ abbrev pub IsBadAt : Role → ℕ → List Item → List Item → Type 0
 IsBadAt role.Manager at managers authors = FirstAt IsGood IsBad managers at
 IsBadAt role.Author at managers authors = AllByRecursion IsGood managers × FirstAt IsGood IsBad authors at
 
+-- the form is there, and the role has too many keys
 pub record HasTooMany (r : Role) (x : Item) : Type 0 where
   pub managers : List Item
   pub authors : List Item
   pub form : HasForm managers authors x
   pub over : IsOver r managers authors
 
+-- the form is there with few keys, and the one at this place is the first bad one
 pub record HasBadKey (r : Role) (at : ℕ) (x : Item) : Type 0 where
   pub managers : List Item
   pub authors : List Item
@@ -106,9 +111,11 @@ KeysReadAs r xs (Err (faults.BadKey s at)) = (s ≡ r) × FirstAt IsGood IsBad x
 KeysReadAs r xs (Err faults.NoMemory) = Unit {0}
 KeysReadAs r xs (Err _) = ⊥
 
+-- all members are byte strings
 abbrev pub AreStrings : List Item → List Item → Type 0
 AreStrings managers authors = AllByRecursion IsString managers × AllByRecursion IsString authors
 
+-- each role has 16 keys at most
 abbrev pub AreFew : List Item → List Item → Type 0
 AreFew managers authors = (length managers ≤ ANCHORS_LIMIT) × (length authors ≤ ANCHORS_LIMIT)
 
@@ -126,5 +133,6 @@ RolesReadAs ms bs (Err faults.NoMemory) = Unit {0}
 abbrev pub wrapped_key : List ℕ → Item
 wrapped_key public = i.Bytes (spelling (written_key (record { kid = None; public = public })))
 
+-- the item that anchors are written as
 abbrev pub written_anchors : Anchors → Item
 written_anchors v = i.Array (i.Array (map wrapped_key v.manager) ∷ i.Array (map wrapped_key v.author) ∷ [])

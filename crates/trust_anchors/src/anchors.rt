@@ -115,6 +115,12 @@ impl Anchors {
         ensures not_signed { IsErrOf result SignFault.NotSigned → (at : ℕ) → Verified self.now role message.now payload.now at → ⊥ }
     {
         let signature = message.signature.as_slice();
-        signer_over(alloc, self.keys(role), message.protected.as_slice(), payload, signature)
+        signer_over(
+            alloc,
+            self.keys(role),
+            message.protected.as_slice(),
+            payload,
+            signature,
+        )
     }
 }

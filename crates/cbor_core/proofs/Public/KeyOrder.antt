@@ -102,4 +102,20 @@ pub negative_below_text : (m : ℕ) (text : List ℕ) → bytes_below (spelling 
 negative_below_text m text = rw (spelling_Negative m, spelling_Text text) (head_text_below 1 3 m (length text) text (omega arith))
 
 -- what shows that an item built of its levels is proper
-pub ruleset layers = (i.outs-Unsigned, i.outs-Negative, i.outs-Bytes, i.outs-Text, i.outs-Array, i.outs-Map, i.outs-Tag, i.outs-Truth, i.outs-Null, nothing_below, unsigned_below, negative_below, unsigned_below_negative, unsigned_below_text, negative_below_text)
+pub ruleset layers = (
+  i.outs-Unsigned,
+  i.outs-Negative,
+  i.outs-Bytes,
+  i.outs-Text,
+  i.outs-Array,
+  i.outs-Map,
+  i.outs-Tag,
+  i.outs-Truth,
+  i.outs-Null,
+  nothing_below,
+  unsigned_below,
+  negative_below,
+  unsigned_below_negative,
+  unsigned_below_text,
+  negative_below_text,
+)

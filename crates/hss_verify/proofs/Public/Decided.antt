@@ -52,7 +52,8 @@ first_at key n bytes message parts spells chain =
 
 linked_or_not : (key : List ℕ) (n : ℕ) (bytes message : List ℕ) (parts : LmsKey) (len : ℕ) → Spells key parts → len ≡ signature_length parts → (length bytes < len + 56) ⊎ (len + 56 ≤ length bytes)
     → LmsValid key (slice_range bytes len (len + 56)) (take len bytes) ⊎ (¬ (LmsValid key (slice_range bytes len (len + 56)) (take len bytes)))
-    → IsChain LmsValid (slice_range bytes len (len + 56)) (suc n - 1) (slice_range bytes (len + 56) (length bytes)) message ⊎ (¬ (IsChain LmsValid (slice_range bytes len (len + 56)) (suc n - 1) (slice_range bytes (len + 56) (length bytes)) message))
+    → IsChain LmsValid (slice_range bytes len (len + 56)) (suc n - 1) (slice_range bytes (len + 56) (length bytes)) message ⊎
+    (¬ (IsChain LmsValid (slice_range bytes len (len + 56)) (suc n - 1) (slice_range bytes (len + 56) (length bytes)) message))
     → IsChain LmsValid key (suc n) bytes message ⊎ (¬ (IsChain LmsValid key (suc n) bytes message))
 linked_or_not key n bytes message parts len spells is (inr room) (inl valid) (inl more) = inl (chained LmsValid key (suc n) bytes message (omega arith)
     (linked_from LmsValid key (suc n) len bytes message (record { room = room; valid = valid; more = more })))
@@ -81,7 +82,8 @@ chain_or_not (suc n) key bytes message = elim (public_key_or_not key) [
 
 valid_by : (public message signature : List ℕ) → IsHssPublic public ⊎ (¬ (IsHssPublic public)) → (length signature < 4) ⊎ (4 ≤ length signature) → (u32_at signature 0 ≡ u32_at public 0 - 1) ⊎ (¬ (u32_at signature 0 ≡ u32_at public 0 - 1))
     → (signature ≡ u32_bytes (u32_at signature 0) ++ slice_range signature 4 (length signature)) ⊎ (¬ (signature ≡ u32_bytes (u32_at signature 0) ++ slice_range signature 4 (length signature)))
-    → IsChain LmsValid (slice_range public 4 60) (u32_at public 0 - 1) (slice_range signature 4 (length signature)) message ⊎ (¬ (IsChain LmsValid (slice_range public 4 60) (u32_at public 0 - 1) (slice_range signature 4 (length signature)) message))
+    → IsChain LmsValid (slice_range public 4 60) (u32_at public 0 - 1) (slice_range signature 4 (length signature)) message ⊎
+    (¬ (IsChain LmsValid (slice_range public 4 60) (u32_at public 0 - 1) (slice_range signature 4 (length signature)) message))
     → HssValid public message signature ⊎ (¬ (HssValid public message signature))
 valid_by public message signature (inl key) (inr room) (inl count) (inl begun) (inl chain) = inl (valid_from public message signature (u32_at public 0) begun key refl (record { room = room; count = count; chain = chain }))
 valid_by public message signature (inr wrong) _ _ _ _ = inr (λ valid. wrong valid.public_key)

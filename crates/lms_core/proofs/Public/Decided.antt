@@ -99,7 +99,8 @@ valid_by public message signature key spells (inl _) (inr wrong) _ = inr (λ val
 valid_by public message signature key spells (inl _) (inl _) (inr wrong) = inr (λ valid. wrong (accepted public message signature key spells valid).root)
 
 under_or_not : (public message signature : List ℕ) → IsPublicKey public ⊎ (¬ (IsPublicKey public)) → LmsValid public message signature ⊎ (¬ (LmsValid public message signature))
-under_or_not public message signature (inl (key, spells)) = valid_by public message signature key spells (or_not _ (form_tested key signature)) (or_not _ (bytes_eq-Decides signature (signature_bytes (signature_at key signature)))) (or_not _ (bytes_eq-Decides (root_candidate key message (signature_at key signature)) key.root))
+under_or_not public message signature (inl (key, spells)) = valid_by public message signature key spells (or_not _ (form_tested key signature))
+    (or_not _ (bytes_eq-Decides signature (signature_bytes (signature_at key signature)))) (or_not _ (bytes_eq-Decides (root_candidate key message (signature_at key signature)) key.root))
 under_or_not public message signature (inr wrong) = inr (λ valid. wrong (valid.key, valid.public_key))
 
 -- a signature is valid, or not

@@ -26,6 +26,7 @@ use Rattle.base_types.specs.contracts.boxed.Boxed.TheInside as inside
 abbrev pub the_former : Former {0} → Former {0}
 the_former g = g
 
+-- a box weighs what its value weighs
 abbrev pub the_weighed : {g : Former {0}} → Weighed g → Weighed (the_former g)
 the_weighed weight = weight
 

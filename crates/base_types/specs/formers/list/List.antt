@@ -23,6 +23,7 @@ use Rattle.base_types.specs.contracts.list.List.TheInside as inside
 abbrev pub the_former : Former {0} → Former {0}
 the_former g = list g
 
+-- a list weighs more than each of its elements
 abbrev pub the_weighed : {g : Former {0}} → Weighed g → Weighed (the_former g)
 the_weighed weight = w_list weight
 
@@ -30,9 +31,11 @@ the_weighed weight = w_list weight
 pub the_empty : List ⊥
 the_empty = []
 
+-- the elements of a list
 abbrev pub the_items : (X : Type 0) → List X → List X
 the_items X xs = xs
 
+-- they are listed as they are
 pub the_items_listed : (X : Type 0) (xs : List X) → listed _ (children (the_former this) X xs) ≡ the_items X xs
 the_items_listed X xs = list-listed X xs
 

@@ -14,7 +14,8 @@ handed_on part whole NoMemory follows reads = tt
 pub returns-in_err-read : goal.returns-in_err-read
 returns-in_err-read g c =
     let p = err_from_is_err_and c.from_residual.result c.from_residual.ensures.1 in
-    rw (p.1, p.2) (handed_on (g.F.Form.view c.member-item.result) _ c.in_err-read.field-0.0 (λ none. one_unread g.F.Form.view c.loop-member.values c.args.members.now c.loop-member.member-index c.member-item.result c.loop-member-test.true c.member-item.is none c.loop-member.invariant) c.in_err-read.ensures)
+    rw (p.1, p.2) (handed_on (g.F.Form.view c.member-item.result) _ c.in_err-read.field-0.0 (λ none. one_unread g.F.Form.view c.loop-member.values c.args.members.now c.loop-member.member-index c.member-item.result
+    c.loop-member-test.true c.member-item.is none c.loop-member.invariant) c.in_err-read.ensures)
 
 pub returns : goal.returns
 returns g c = all_read g.F.Form.view c.loop-member.values c.args.members.now c.loop-member.member-index c.loop-member-test.false c.loop-member.invariant

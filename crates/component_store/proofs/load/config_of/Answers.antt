@@ -14,7 +14,9 @@ returns-in-Err-BadConfig-clause-loaded c = λ image size front. without_config i
     (λ v is. subst (λ (e : ConfigFault). IsFound (Err e) v) c.in-Err-BadConfig.field-0-is (c.in-Err-BadConfig.ensures.only v is))
 
 pub returns-then-size-clause-loaded : goal.returns-then-size-clause-loaded
-returns-then-size-clause-loaded c = λ image size front. without_room image c.args.head.now front c.in-Some.bytes.now c.in-Some.ensures c.in-Ok.config c.in-Ok.ensures.found (let room : region_size c.journal_of.result ≡ region_size (journal_region c.in-Ok.config.quota) = ap region_size c.journal_of.ensures.region in omega (arith, size, room))
+returns-then-size-clause-loaded c = λ image size front. without_room image c.args.head.now front c.in-Some.bytes.now c.in-Some.ensures c.in-Ok.config c.in-Ok.ensures.found
+    (let room : region_size c.journal_of.result ≡ region_size (journal_region c.in-Ok.config.quota) = ap region_size c.journal_of.ensures.region in omega (arith, size, room))
 
 pub returns-clause-loaded : goal.returns-clause-loaded
-returns-clause-loaded c = λ image size front. with_room image c.args.head.now front c.in-Some.bytes.now c.in-Some.ensures c.in-Ok.config c.in-Ok.ensures.found (let room : region_size c.journal_of.result ≡ region_size (journal_region c.in-Ok.config.quota) = ap region_size c.journal_of.ensures.region in omega (arith, size, room))
+returns-clause-loaded c = λ image size front. with_room image c.args.head.now front c.in-Some.bytes.now c.in-Some.ensures c.in-Ok.config c.in-Ok.ensures.found
+    (let room : region_size c.journal_of.result ≡ region_size (journal_region c.in-Ok.config.quota) = ap region_size c.journal_of.ensures.region in omega (arith, size, room))

@@ -22,7 +22,8 @@ loop-preserved c =
     let lt : c.loop.counter < length c.args.input.now.rest = omega (arith, c.len-end.ensures, c.loop-test.true) in
     let after = rw c.if-token.false at c.token.ensures.behind in
     let behind = rw c.if-not-pass_text.false at c.pass_text.ensures.after in
-    piece_goes_on escaped text_guess (codes "\"") c.args.at (length c.args.input.now.rest) c.loop.counter c.loop.found c.loop.input _ c.loop.invariant c.token.new.self c.pass_text.new.input c.guess_text-byte.result c.pass_text.result c.push.new.self
+    piece_goes_on escaped text_guess (codes "\"") c.args.at (length c.args.input.now.rest) c.loop.counter c.loop.found c.loop.input _ c.loop.invariant c.token.new.self c.pass_text.new.input c.guess_text-byte.result
+    c.pass_text.result c.push.new.self
     lt after (sym c.token.ensures.found ∙ c.if-token.false) (rw c.rest.ensures at c.guess_text-byte.ensures) c.pass_text.ensures.found c.if-not-pass_text.false behind c.in_ok-push.ensures.ok
 
 pub returns : goal.returns

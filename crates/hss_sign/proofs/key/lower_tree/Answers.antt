@@ -11,7 +11,17 @@ returns g c =
         record {
           secret = c.in_ok-tree.ensures.1 ∙ secret;
           grown = rw secret at c.in_ok-tree.ensures.0;
-          signed = c.in_ok-extend_from_slice.ensures.items ∙ rw (c.in_ok-write_signature.ensures.value, c.new-signed.ensures.items, c.deref-2.ensures.value, c.deref.ensures.value, c.in_ok-write_public.ensures.value, c.new-public.ensures.items, c.in_ok-tree.ensures.1, secret, c.requires.secret) refl;
+          signed = c.in_ok-extend_from_slice.ensures.items ∙ rw (
+            c.in_ok-write_signature.ensures.value,
+            c.new-signed.ensures.items,
+            c.deref-2.ensures.value,
+            c.deref.ensures.value,
+            c.in_ok-write_public.ensures.value,
+            c.new-public.ensures.items,
+            c.in_ok-tree.ensures.1,
+            secret,
+            c.requires.secret,
+          ) refl;
         },
         refl,
       );

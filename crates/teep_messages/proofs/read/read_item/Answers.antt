@@ -23,4 +23,5 @@ by_members x (k ∷ parts) other kind n r at some first number is =
 
 pub returns-in-Some : goal.returns-in-Some
 returns-in-Some c =
-    by_members c.args.item.now c.in-Some-len1-up.field-0.now _ c.kind-item.result c.in-Some.number c.read_parts.result (sym c.in-Some-len1-up.ensures) c.in-Some-len1-up.len_at_least c.kind-item.is (sym c.as_unsigned.ensures ∙ c.in-Some.is) c.read_parts.ensures
+    by_members c.args.item.now c.in-Some-len1-up.field-0.now _ c.kind-item.result c.in-Some.number c.read_parts.result (sym c.in-Some-len1-up.ensures) c.in-Some-len1-up.len_at_least c.kind-item.is (sym c.as_unsigned.ensures
+    ∙ c.in-Some.is) c.read_parts.ensures

@@ -42,4 +42,5 @@ returns-clause-value g c =
     let count : c.from-leaves.result ≡ 2 ^ inside.params.height = c.from-leaves.ensures ∙ c.leaves.ensures.count in
     let top = low.1 ∙ ap (λ (m : ℕ). c.args.leaf / m) count in
     let below = ap (λ (m : ℕ). c.args.leaf % m) count in
-    c.in_ok-signature.ensures.value ∙ rw (low.0.secret, low.0.signed) (by_two_levels inside.params inside.seed c.args.leaf _ _ c.args.message.now two top below) ∙ ap (λ k. signature_of k.params k.seed c.args.leaf c.args.message.now) c.self.view_is
+    c.in_ok-signature.ensures.value ∙ rw (low.0.secret, low.0.signed) (by_two_levels inside.params inside.seed c.args.leaf _ _ c.args.message.now two top below)
+    ∙ ap (λ k. signature_of k.params k.seed c.args.leaf c.args.message.now) c.self.view_is

@@ -40,12 +40,14 @@ returns-in_err-write_gated-clause-moments g c = λ told clean bodies fits.
 pub returns-clause-untouched : goal.returns-clause-untouched
 returns-clause-untouched g c = λ told.
     in_region c.args.self.now.region (omega (arith, c.gate_at-gate.ensures.at, half_after c.args.self.now.region c.args.self.now.second)) (omega arith)
-    (omega (arith, c.gate_at-gate.ensures.below, ap length c.behind_gate.ensures, ap length c.bytes.ensures.bytes)) (omega (arith, ap length c.behind_gate.ensures, length-append (frames c.args.framed.now) (0 ∷ []))) (c.write_gated.ensures.within told)
+    (omega (arith, c.gate_at-gate.ensures.below, ap length c.behind_gate.ensures, ap length c.bytes.ensures.bytes)) (omega (arith, ap length c.behind_gate.ensures, length-append (frames c.args.framed.now) (0 ∷ [])))
+    (c.write_gated.ensures.within told)
 
 pub returns-in_err-write_gated-clause-untouched : goal.returns-in_err-write_gated-clause-untouched
 returns-in_err-write_gated-clause-untouched g c = λ told.
     in_region c.args.self.now.region (omega (arith, c.gate_at-gate.ensures.at, half_after c.args.self.now.region c.args.self.now.second)) (omega arith)
-    (omega (arith, c.gate_at-gate.ensures.below, ap length c.behind_gate.ensures, ap length c.bytes.ensures.bytes)) (omega (arith, ap length c.behind_gate.ensures, length-append (frames c.args.framed.now) (0 ∷ []))) (c.write_gated.ensures.within told)
+    (omega (arith, c.gate_at-gate.ensures.below, ap length c.behind_gate.ensures, ap length c.bytes.ensures.bytes)) (omega (arith, ap length c.behind_gate.ensures, length-append (frames c.args.framed.now) (0 ∷ [])))
+    (c.write_gated.ensures.within told)
 
 pub take_in_reserved-requires-clause-fits : goal.take_in_reserved-requires-clause-fits
 take_in_reserved-requires-clause-fits g c = omega (arith, length-one c.args.framed.now c.lengths-lengths.result.now c.requires.one c.lengths-lengths.ensures.lengths, ap length c.bytes.ensures.bytes)
