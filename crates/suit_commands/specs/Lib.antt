@@ -1,0 +1,7 @@
+pub mod Digests
+pub mod Parameters
+pub mod Reading
+pub mod Sequences
+pub mod Written
+pub mod Proper
+pub mod Law
