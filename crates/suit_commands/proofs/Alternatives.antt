@@ -1,5 +1,5 @@
 -- Alternatives, each a wrapped sequence, and null behind them.
-use Rattle.std.proofs.Common.{◌≡◌, ℕ, Bool, true, false, cond, List, [], ◌∷◌, ◌++◌, map, Option, Some, None, refl, sym, ap, subst, ◌∙◌}
+use Rattle.std.proofs.Common.{◌≡◌, Bool, true, false, cond, List, [], ◌∷◌, refl, sym, ap, subst, ◌∙◌}
 use Rattle.std.specs.Prelude.{Result, Ok, Err}
 use Rattle.std.specs.List.{AllByRecursion}
 use Rattle.cbor_core.specs.declared.item.Item.{Item, out-Item}
@@ -17,7 +17,7 @@ use Rattle.item_codec.proofs.Public.Arrays.{Makes, array_part}
 use Rattle.suit_commands.specs.declared.fault.SequenceFault.{SequenceFault}
 use Rattle.suit_commands.specs.declared.fault.SequenceFault.TheVariants.{Shape, NoMemory}
 use Rattle.suit_commands.specs.Sequences.{Sequence, Inner, wrapped_sequence, null_by, last_alternative, alternatives}
-use Rattle.suit_commands.specs.Written.{null_items, alternative_items}
+use Rattle.suit_commands.specs.Written.{alternative_items}
 use Rattle.suit_commands.specs.Proper.{HasAlternative}
 use Rattle.suit_commands.proofs.Fields.{shape}
 

@@ -1,15 +1,12 @@
 -- Commands, each by its number and its argument.
-use Rattle.std.proofs.Common.{◌≡◌, ℕ, Bool, true, false, cond, List, [], ◌∷◌, refl, sym, ap, subst, ◌∙◌}
+use Rattle.std.proofs.Common.{◌≡◌, ℕ, Bool, true, false, cond, List, refl, sym, ap, subst, ◌∙◌}
 use Rattle.std.specs.Prelude.{Result, Ok, Err, ◌==◌, if◌then◌else◌}
-use Rattle.std.specs.List.{AllByRecursion}
 use Rattle.std.proofs.lemmas.Bool.{eqb-true}
-use Rattle.cbor_core.specs.declared.item.Item.{Item, out-Item}
+use Rattle.cbor_core.specs.declared.item.Item.{Item}
 use Rattle.cbor_core.specs.declared.item.Item.TheVariants as i
-use Rattle.cbor_core.specs.Views.{unsigned_of}
 use Rattle.cbor_fields.specs.Written.{IsSpelled}
-use Rattle.item_codec.specs.Answers.{and_then, mapped, IsSettled}
-use Rattle.item_codec.specs.Part.{Any, Part}
-use Rattle.item_codec.specs.Fields.{shaped, in_array}
+use Rattle.item_codec.specs.Answers.{mapped, IsSettled}
+use Rattle.item_codec.specs.Part.{Part}
 use Rattle.item_codec.specs.Wrapped.{wrap}
 use Rattle.item_codec.proofs.Public.Settled.{then_settled}
 use Rattle.suit_commands.specs.declared.command.Command.{Command, out-Command}
@@ -18,11 +15,10 @@ use Rattle.suit_commands.specs.declared.command.Command.TheViews.{roll-Command, 
 use Rattle.suit_commands.specs.declared.command.Command.TheVariants as c
 use Rattle.suit_commands.specs.declared.fault.SequenceFault.{SequenceFault}
 use Rattle.suit_commands.specs.declared.fault.SequenceFault.TheVariants as faults
-use Rattle.suit_commands.specs.Parameters.{parameters_of, parameters_item, AreProper}
-use Rattle.suit_commands.specs.Sequences.{Sequence, Inner, wrapped_sequence, alternatives, kept, kept_of, command_of}
-use Rattle.suit_commands.specs.Written.{number_by, number_of, argument_by, alternative_items}
-use Rattle.suit_commands.specs.Proper.{HasAlternative, IsProperCommandBy}
-use Rattle.suit_commands.proofs.Fields.{shape, number, parameters_part}
+use Rattle.suit_commands.specs.Sequences.{Sequence, Inner, wrapped_sequence, kept, kept_of, command_of}
+use Rattle.suit_commands.specs.Written.{number_by, number_of, argument_by}
+use Rattle.suit_commands.specs.Proper.{IsProperCommandBy}
+use Rattle.suit_commands.proofs.Fields.{number, parameters_part}
 use Rattle.suit_commands.proofs.Alternatives.{alternatives_part}
 
 command_told : (n : ℕ) → faults.Command n ≡ faults.NoMemory → ⊥

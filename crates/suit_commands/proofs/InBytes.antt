@@ -1,6 +1,6 @@
 -- What bytes as a whole give, by the item that they spell; and what byte strings wrap.
-use Rattle.std.proofs.Common.{◌≡◌, ◌⊎◌, ℕ, List, [], ◌∷◌, length, drop, Option, Some, None, refl, sym, ap, subst, ◌∙◌, inl, inr, arith}
-use Rattle.std.specs.Prelude.{Result, Ok, Err, ◌↔◌}
+use Rattle.std.proofs.Common.{◌≡◌, ℕ, List, [], ◌∷◌, length, drop, Option, Some, None, refl, sym, ap, subst, ◌∙◌, inl, inr, arith}
+use Rattle.std.specs.Prelude.{Result, Ok, Err}
 use Rattle.std.proofs.lemmas.List.{drop_all, drop_more}
 use Rattle.base_types.specs.Bytes.{IsBytes}
 use Rattle.cbor_core.specs.declared.item.Item.{Item, out-Item}
@@ -21,7 +21,7 @@ use Rattle.cbor_core.proofs.Public.Whole.{exactly_one_whole, reads, reads_whole,
 use Rattle.cbor_fields.specs.Written.{IsSpelled}
 use Rattle.item_codec.specs.Answers.{and_then, or_fault, IsSettled}
 use Rattle.item_codec.specs.Part.{Part}
-use Rattle.item_codec.specs.Whole.{HasValue, HasRefusal, IsNoItem, BytesGive}
+use Rattle.item_codec.specs.Whole.{BytesGive}
 use Rattle.item_codec.specs.Wrapped.{wrap, IsWrappable}
 use Rattle.item_codec.proofs.Public.Settled.{fault_settled, then_settled}
 use Rattle.item_codec.proofs.Public.Whole.{value_written}

@@ -1,14 +1,13 @@
 -- Sequences inside one another: what holds of a level holds of the level round it.
-use Rattle.std.proofs.Common.{◌≡◌, ℕ, zero, suc, ◌-◌, ◌<◌, List, refl, sym, ap, arith}
-use Rattle.std.specs.Prelude.{Result, Ok, Err}
-use Rattle.cbor_core.specs.declared.item.Item.{Item}
+use Rattle.std.proofs.Common.{◌≡◌, ℕ, zero, suc, List, refl}
+use Rattle.std.specs.Prelude.{Err}
 use Rattle.cbor_core.specs.declared.item.Item.TheVariants as i
 use Rattle.cbor_heads.specs.declared.fault.Fault.{Fault}
 use Rattle.item_codec.specs.Part.{Part}
 use Rattle.item_codec.specs.Wrapped.{wrap}
 use Rattle.suit_commands.specs.declared.fault.SequenceFault.TheVariants.{Cbor, Nesting, NoMemory, Shape}
 use Rattle.suit_commands.specs.Reading.{in_bytes}
-use Rattle.suit_commands.specs.Sequences.{Sequence, wrapped_sequence, sequence_by, sequence_in}
+use Rattle.suit_commands.specs.Sequences.{wrapped_sequence, sequence_by, sequence_in}
 use Rattle.suit_commands.specs.Written.{members, written_in}
 use Rattle.suit_commands.specs.Proper.{AreProperCommands, IsProperIn}
 use Rattle.suit_commands.proofs.Fields.{shape}

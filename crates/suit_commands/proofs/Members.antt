@@ -1,8 +1,8 @@
 -- Commands one behind the other: the members of a sequence's array.
-use Rattle.std.proofs.Common.{◌≡◌, ℕ, List, [], ◌∷◌, Option, Some, None, refl, sym, ap, subst, ◌∙◌}
+use Rattle.std.proofs.Common.{◌≡◌, ℕ, List, [], ◌∷◌, Option, Some, None, refl, ap, subst, ◌∙◌}
 use Rattle.std.specs.Prelude.{Result, Ok, Err, option_map}
 use Rattle.std.specs.List.{AllByRecursion}
-use Rattle.cbor_core.specs.declared.item.Item.{Item, out-Item}
+use Rattle.cbor_core.specs.declared.item.Item.{Item}
 use Rattle.cbor_core.specs.declared.item.Item.TheVariants as i
 use Rattle.cbor_core.specs.Views.{unsigned_of}
 use Rattle.cbor_fields.specs.Written.{IsSpelled}
@@ -12,12 +12,12 @@ use Rattle.item_codec.specs.Fields.{shaped}
 use Rattle.item_codec.specs.Wrapped.{wrap}
 use Rattle.item_codec.proofs.Public.Settled.{fault_settled, then_settled}
 use Rattle.item_codec.proofs.Public.Arrays.{Makes, array_part}
-use Rattle.suit_commands.specs.declared.command.Command.{Command, out-Command}
+use Rattle.suit_commands.specs.declared.command.Command.{Command}
 use Rattle.suit_commands.specs.declared.fault.SequenceFault.{SequenceFault}
 use Rattle.suit_commands.specs.declared.fault.SequenceFault.TheVariants.{Shape, NoMemory}
 use Rattle.suit_commands.specs.Sequences.{Sequence, Inner, wrapped_sequence, command_of, command_at, paired, commands, members_in, sequence_by}
-use Rattle.suit_commands.specs.Written.{number_of, argument_by, members}
-use Rattle.suit_commands.specs.Proper.{IsProperCommandBy, AreProperCommands}
+use Rattle.suit_commands.specs.Written.{number_of, members}
+use Rattle.suit_commands.specs.Proper.{AreProperCommands}
 use Rattle.suit_commands.proofs.Fields.{shape, number}
 use Rattle.suit_commands.proofs.Arguments.{argument, Proper, commands_fit, command_seen}
 

@@ -1,18 +1,18 @@
 -- A level of sequences, as it is read and as it is written.
-use Rattle.std.proofs.Common.{◌≡◌, ◌⊎◌, ℕ, zero, suc, ◌-◌, ◌<◌, ◌≤◌, List, refl, sym, ap, subst, ◌∙◌, inl, inr, arith}
+use Rattle.std.proofs.Common.{◌≡◌, ◌⊎◌, ℕ, zero, suc, ◌-◌, ◌<◌, ◌≤◌, List, sym, ap, subst, ◌∙◌, inl, inr, arith}
 use Rattle.std.specs.Prelude.{Result, Ok, Err, IfOk}
 use Rattle.base_types.specs.Bytes.{IsBytes}
 use Rattle.base_types.specs.declared.memory.NoMemory.{NoMemory as WantOfMemory}
 use Rattle.cbor_core.specs.declared.item.Item.{Item}
 use Rattle.cbor_core.specs.declared.item.Item.TheVariants as i
 use Rattle.cbor_core.specs.Law.{IsFaultyWhole}
-use Rattle.cbor_core.specs.Spelling.{spelling, Spells, IsProper}
+use Rattle.cbor_core.specs.Spelling.{Spells, IsProper}
 use Rattle.cbor_heads.specs.declared.fault.Fault.{Fault}
 use Rattle.item_codec.specs.Answers.{and_then, Answers, IsAnswer}
 use Rattle.item_codec.specs.Wrapped.{wrap}
 use Rattle.suit_commands.specs.declared.fault.SequenceFault.{SequenceFault}
 use Rattle.suit_commands.specs.declared.fault.SequenceFault.TheVariants.{Cbor, Nesting, NoMemory}
-use Rattle.suit_commands.specs.Reading.{item_or_fault, in_bytes}
+use Rattle.suit_commands.specs.Reading.{in_bytes}
 use Rattle.suit_commands.specs.Sequences.{Sequence, SequenceIs, sequence_by, sequence_in}
 use Rattle.suit_commands.specs.Written.{members, written_in}
 use Rattle.suit_commands.specs.Proper.{AreProperCommands, IsProperIn, IsProperSequence}

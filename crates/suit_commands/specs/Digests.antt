@@ -10,7 +10,7 @@ use Rattle.cbor_fields.specs.declared.fault.FormFault.{FormFault}
 use Rattle.cbor_fields.specs.declared.fault.FormFault.TheVariants.{Shape}
 use Rattle.item_codec.specs.Answers.{value_of}
 use Rattle.item_codec.specs.Fields.{shaped, sized, part, in_array}
-use Rattle.item_codec.specs.Wrapped.{wrapped, wrap, IsWrappable}
+use Rattle.item_codec.specs.Wrapped.{wrapped, IsWrappable}
 use Rattle.suit_commands.specs.declared.digest.Digest.{Digest}
 use Rattle.suit_commands.specs.declared.digest.DigestAlgorithm.{DigestAlgorithm}
 use Rattle.suit_commands.specs.declared.digest.DigestAlgorithm.TheVariants.{Sha256, Sha384, Sha512}

@@ -1,12 +1,11 @@
 -- What holds of digests, parameters and sequences.
-use Rattle.std.specs.Prelude.{ℕ, zero, suc, ◌≡◌, ◌↔◌, List, [], Result, Err}
+use Rattle.std.specs.Prelude.{ℕ, suc, ◌≡◌, ◌↔◌, List, [], Result, Err}
 use Rattle.base_types.specs.Bytes.{IsBytes}
-use Rattle.cbor_core.specs.declared.item.Item.{Item}
 use Rattle.cbor_core.specs.declared.item.Pair.{Pair}
 use Rattle.cbor_core.specs.Spelling.{spelling, KeysAscend}
 use Rattle.item_codec.specs.InOrder.{refusal, judge, first_refused}
 use Rattle.item_codec.specs.Part.{Part, Exact}
-use Rattle.item_codec.specs.Whole.{BytesGive, OneAnswer}
+use Rattle.item_codec.specs.Whole.{BytesGive}
 use Rattle.item_codec.specs.Wrapped.{wrap}
 use Rattle.suit_commands.specs.declared.fault.SequenceFault.{SequenceFault}
 use Rattle.suit_commands.specs.declared.fault.SequenceFault.TheVariants.{Cbor, Nesting, NoMemory}

@@ -1,5 +1,5 @@
 -- Parameters: which map they are, or its first refusal, and the map that they are written as.
-use Rattle.std.specs.Prelude.{ℕ, List, [], ◌∷◌, IfSome, Result}
+use Rattle.std.specs.Prelude.{List, [], ◌∷◌, IfSome, Result}
 use Rattle.cbor_core.specs.declared.item.Item.{Item, out-Item}
 use Rattle.cbor_core.specs.declared.item.Item.TheOpen.{Item-F}
 use Rattle.cbor_core.specs.declared.item.Item.TheVariants as i

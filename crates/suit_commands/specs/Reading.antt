@@ -4,7 +4,7 @@ use Rattle.base_types.specs.declared.limits.TheConstants.{CBOR_DEPTH_LIMIT}
 use Rattle.cbor_core.specs.declared.item.Item.{Item}
 use Rattle.cbor_heads.specs.declared.fault.Fault.{Fault}
 use Rattle.cbor_heads.specs.declared.fault.Why.TheVariants as why
-use Rattle.cbor_heads.specs.Place.{Place, start}
+use Rattle.cbor_heads.specs.Place.{start}
 use Rattle.cbor_heads.specs.Reading.{Outcome}
 use Rattle.cbor_core.specs.Reading.{item_at}
 use Rattle.item_codec.specs.Answers.{and_then}

@@ -1,6 +1,6 @@
 -- Digests that are written are read again, and the other way round.
-use Rattle.std.proofs.Common.{◌≡◌, ℕ, Bool, true, false, cond, List, [], ◌∷◌, length, Option, Some, None, refl, ap, ◌∙◌, arith}
-use Rattle.std.specs.Prelude.{◌==◌, ◌≤◌, Ok, Err}
+use Rattle.std.proofs.Common.{◌≡◌, ℕ, Bool, true, false, cond, List, [], ◌∷◌, length, Some, None, refl, ap, ◌∙◌, arith}
+use Rattle.std.specs.Prelude.{◌==◌, ◌≤◌, Ok}
 use Rattle.std.proofs.lemmas.Bool.{eqb-true}
 use Rattle.cbor_core.specs.declared.item.Item.{Item}
 use Rattle.cbor_core.specs.declared.item.Item.TheOpen.{Item-F}
@@ -11,7 +11,7 @@ use Rattle.cbor_core.proofs.Public.Views.{by_layer}
 use Rattle.cbor_fields.specs.declared.fault.FormFault.TheVariants.{Shape, NoMemory}
 use Rattle.item_codec.specs.Part.{Any, Part, Exact}
 use Rattle.item_codec.specs.Fields.{shaped, sized, in_array, IsWithin}
-use Rattle.item_codec.specs.Wrapped.{wrapped, wrap}
+use Rattle.item_codec.specs.Wrapped.{wrap}
 use Rattle.item_codec.proofs.Public.Forms.{shaped_part, sized_part, part_exact}
 use Rattle.item_codec.proofs.Public.Arrays.{Makes, part_makes, all_made, none_made, part_seen, array_part}
 use Rattle.item_codec.proofs.Public.Wraps.{wrapped_part}

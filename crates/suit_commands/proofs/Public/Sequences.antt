@@ -1,12 +1,11 @@
 -- Which sequence bytes are, how bytes that are none are refused, and which sequences may be written.
-use Rattle.std.proofs.Common.{◌≡◌, ℕ, suc, List, refl, sym, ap, ◌∙◌}
+use Rattle.std.proofs.Common.{◌≡◌, refl, sym, ◌∙◌}
 use Rattle.std.specs.Prelude.{Result, Ok, Err}
-use Rattle.base_types.specs.Bytes.{IsBytes}
 use Rattle.item_codec.specs.Answers.{IsSettled}
 use Rattle.suit_commands.specs.declared.fault.SequenceFault.{SequenceFault}
 use Rattle.suit_commands.specs.declared.fault.SequenceFault.TheVariants.{Cbor, NoMemory}
-use Rattle.suit_commands.specs.Sequences.{Sequence, sequence_in, sequence_by, SequenceIs}
-use Rattle.suit_commands.specs.Law.{ByBytes, OneReading, ExactlyOne, OneSpelling, SequencesAreProper, ProperAreSpelled}
+use Rattle.suit_commands.specs.Sequences.{Sequence, sequence_in, sequence_by}
+use Rattle.suit_commands.specs.Law.{ByBytes, ExactlyOne, OneSpelling, SequencesAreProper, ProperAreSpelled}
 use Rattle.suit_commands.proofs.InBytes.{given_is, is_given}
 use Rattle.suit_commands.proofs.Levels.{none_left, one_more, level}
 

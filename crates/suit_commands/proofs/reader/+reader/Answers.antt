@@ -30,7 +30,8 @@ read_members-returns-in_err-command t c =
 pub read_members-loop-at-preserved : goal.read_members-loop-at-preserved
 read_members-loop-at-preserved t c =
     let two = two_at c.args.members.now c.loop-at.at c.index-members-at.result c.index-members-at-in-loop-at.result _ _ (omega (arith, c.loop-at-test.true)) c.index-members-at.is c.index-members-at-in-loop-at.is in
-    rw c.in_ok-push.ensures.ok (goes_on (sequence_in c.args.inside) c.loop-at.commands c.args.members.now c.loop-at.at c.index-members-at.result c.index-members-at-in-loop-at.result c.in_ok-command.command _ two c.in_ok-command.ensures c.loop-at.invariant)
+    rw c.in_ok-push.ensures.ok (goes_on (sequence_in c.args.inside) c.loop-at.commands c.args.members.now c.loop-at.at c.index-members-at.result c.index-members-at-in-loop-at.result
+    c.in_ok-command.command _ two c.in_ok-command.ensures c.loop-at.invariant)
 
 pub read_members-returns : goal.read_members-returns
 read_members-returns t c =
