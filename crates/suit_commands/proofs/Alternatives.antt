@@ -15,11 +15,11 @@ use Rattle.item_codec.specs.Wrapped.{wrap}
 use Rattle.item_codec.proofs.Public.Settled.{then_settled}
 use Rattle.item_codec.proofs.Public.Arrays.{Makes, array_part}
 use Rattle.suit_commands.specs.declared.fault.SequenceFault.{SequenceFault}
-use Rattle.suit_commands.specs.declared.fault.SequenceFault.TheVariants.{Shape, NoMemory}
+use Rattle.suit_commands.specs.declared.fault.SequenceFault.TheVariants.{Shape}
 use Rattle.suit_commands.specs.Sequences.{Sequence, Inner, wrapped_sequence, null_by, last_alternative, alternatives}
 use Rattle.suit_commands.specs.Written.{alternative_items}
 use Rattle.suit_commands.specs.Proper.{HasAlternative}
-use Rattle.suit_commands.proofs.Fields.{shape}
+use Rattle.suit_commands.proofs.Fields.{IsOutside}
 
 null_rolled : (l : Item-F Item Pair) → null_by l ≡ true → roll-Item l ≡ i.Null
 null_rolled Item-F.Null e = i.rolls-Null
@@ -43,7 +43,7 @@ ended_by null_last ss = (ss, null_last)
 null_is : (x : Item) → null_by (out-Item x) ≡ true → x ≡ i.Null
 null_is x e = sym (roll-out-Item x) ∙ null_rolled (out-Item x) e
 
-module _ (inner : Inner) (item : Sequence → Item) (P : Sequence → Type 0) (one : Part NoMemory (wrapped_sequence inner) (wrap item) P) where
+module _ (none : SequenceFault) (outside : IsOutside none) (inner : Inner) (item : Sequence → Item) (P : Sequence → Type 0) (one : Part none (wrapped_sequence inner) (wrap item) P) where
   -- the items of alternatives
   abbrev items : List Sequence × Bool → List Item
   items t = alternative_items (wrap item) t.0 t.1
@@ -53,16 +53,16 @@ module _ (inner : Inner) (item : Sequence → Item) (P : Sequence → Type 0) (o
 
   -- ---- no refusal is want of memory
 
-  last_settled : (x : Item) (b : Bool) → IsSettled NoMemory (cond b (Ok null_alone) (mapped alone (wrapped_sequence inner x)))
+  last_settled : (x : Item) (b : Bool) → IsSettled none (cond b (Ok null_alone) (mapped alone (wrapped_sequence inner x)))
   last_settled x true = tt
-  last_settled x false = then_settled NoMemory (λ (s : Sequence). Ok (alone s)) (wrapped_sequence inner x) (one.settled x) (λ _. tt)
+  last_settled x false = then_settled none (λ (s : Sequence). Ok (alone s)) (wrapped_sequence inner x) (one.settled x) (λ _. tt)
 
-  settled : (xs : List Item) → IsSettled NoMemory (alternatives inner xs)
-  settled [] = shape
+  settled : (xs : List Item) → IsSettled none (alternatives inner xs)
+  settled [] = outside.shape
   settled (x ∷ []) = last_settled x (null_by (out-Item x))
   settled (x ∷ y ∷ xs) =
-      then_settled NoMemory (λ (s : Sequence). mapped (more_of s) (alternatives inner (y ∷ xs))) (wrapped_sequence inner x) (one.settled x) (λ s.
-      then_settled NoMemory (λ (t : List Sequence × Bool). Ok (more_of s t)) (alternatives inner (y ∷ xs)) (settled (y ∷ xs)) (λ _. tt))
+      then_settled none (λ (s : Sequence). mapped (more_of s) (alternatives inner (y ∷ xs))) (wrapped_sequence inner x) (one.settled x) (λ s.
+      then_settled none (λ (t : List Sequence × Bool). Ok (more_of s t)) (alternatives inner (y ∷ xs)) (settled (y ∷ xs)) (λ _. tt))
 
   -- ---- what was read
 
@@ -137,12 +137,12 @@ module _ (inner : Inner) (item : Sequence → Item) (P : Sequence → Type 0) (o
 
   -- ---- the array as a part
 
-  makes : (xs : List Item) → Makes NoMemory items (alternatives inner xs) xs IsProperTry
+  makes : (xs : List Item) → Makes none items (alternatives inner xs) xs IsProperTry
   makes xs = record {
     settled = settled xs;
     back = λ all t h. (let r = all_read xs t all h in r.is);
     proper = λ all t h. (let r = all_read xs t all h in r.proper);
   }
 
-  pub alternatives_part : Part NoMemory (in_array Shape (alternatives inner)) (λ t. i.Array (alternative_items (wrap item) t.0 t.1)) (λ t. HasAlternative t.0 t.1 × AllByRecursion P t.0)
-  alternatives_part = array_part NoMemory Shape (alternatives inner) items IsProperTry shape makes (λ t is. seen_by t.0 t.1 is.0 is.1)
+  pub alternatives_part : Part none (in_array Shape (alternatives inner)) (λ t. i.Array (alternative_items (wrap item) t.0 t.1)) (λ t. HasAlternative t.0 t.1 × AllByRecursion P t.0)
+  alternatives_part = array_part none Shape (alternatives inner) items IsProperTry outside.shape makes (λ t is. seen_by t.0 t.1 is.0 is.1)

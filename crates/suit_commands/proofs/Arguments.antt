@@ -18,13 +18,10 @@ use Rattle.suit_commands.specs.declared.fault.SequenceFault.TheVariants as fault
 use Rattle.suit_commands.specs.Sequences.{Sequence, Inner, wrapped_sequence, kept, kept_of, command_of}
 use Rattle.suit_commands.specs.Written.{number_by, number_of, argument_by}
 use Rattle.suit_commands.specs.Proper.{IsProperCommandBy}
-use Rattle.suit_commands.proofs.Fields.{number, parameters_part}
+use Rattle.suit_commands.proofs.Fields.{IsOutside, number, parameters_part}
 use Rattle.suit_commands.proofs.Alternatives.{alternatives_part}
 
-command_told : (n : ℕ) → faults.Command n ≡ faults.NoMemory → ⊥
-command_told n e = cc
-
-module _ (inner : Inner) (item : Sequence → Item) (P : Sequence → Type 0) (one : Part faults.NoMemory (wrapped_sequence inner) (wrap item) P) where
+module _ (none : SequenceFault) (outside : IsOutside none) (inner : Inner) (item : Sequence → Item) (P : Sequence → Type 0) (one : Part none (wrapped_sequence inner) (wrap item) P) where
   abbrev pub argument : Command → Item
   argument command = argument_by (wrap item) (out-Command command)
 
@@ -33,14 +30,14 @@ module _ (inner : Inner) (item : Sequence → Item) (P : Sequence → Type 0) (o
 
   -- What is read under a number has that number, is the argument of the command, and keeps the command's rules.
   pub record Fits (number : ℕ) (read : Item → Result Command SequenceFault) : Type 0 where
-    pub settled : (x : Item) → IsSettled faults.NoMemory (read x)
+    pub settled : (x : Item) → IsSettled none (read x)
     pub numbered : (x : Item) (command : Command) → read x ≡ Ok command → number ≡ number_of command
     pub fixes : (x : Item) (command : Command) → IsSpelled x → read x ≡ Ok command → x ≡ argument command
     pub proper : (x : Item) (command : Command) → IsSpelled x → read x ≡ Ok command → Proper command
 
   -- ---- one row of the table
 
-  module _ {V : Type 0} {view : Item → Result V SequenceFault} {form : V → Item} {Q : V → Type 0} (part : Part faults.NoMemory view form Q) (label : ℕ) (make : V → Command)
+  module _ {V : Type 0} {view : Item → Result V SequenceFault} {form : V → Item} {Q : V → Type 0} (part : Part none view form Q) (label : ℕ) (make : V → Command)
       (numbers : (v : V) → label ≡ number_of (make v)) (forms : (v : V) → form v ≡ argument (make v)) (keeps : (v : V) → Q v → Proper (make v)) where
     number_by_value : (command : Command) (r : Result V SequenceFault) → mapped make r ≡ Ok command → label ≡ number_of command
     number_by_value command (Err e) h = absurd cc
@@ -56,7 +53,7 @@ module _ (inner : Inner) (item : Sequence → Item) (P : Sequence → Type 0) (o
 
     row : Fits label (λ x. mapped make (view x))
     row = record {
-      settled = λ x. then_settled faults.NoMemory (λ (v : V). Ok (make v)) (view x) (part.settled x) (λ _. tt);
+      settled = λ x. then_settled none (λ (v : V). Ok (make v)) (view x) (part.settled x) (λ _. tt);
       numbered = λ x command h. number_by_value command (view x) h;
       fixes = λ x command s h. form_by_value x command s (view x) refl h;
       proper = λ x command s h. proper_by_value x command s (view x) refl h;
@@ -72,11 +69,11 @@ module _ (inner : Inner) (item : Sequence → Item) (P : Sequence → Type 0) (o
     by_test false is = at_other
 
   none_fits : (n : ℕ) → Fits n (λ x. Err (faults.Command n))
-  none_fits n = record { settled = λ x. command_told n; numbered = λ x command h. absurd cc; fixes = λ x command s h. absurd cc; proper = λ x command s h. absurd cc }
+  none_fits n = record { settled = λ x. outside.command n; numbered = λ x command h. absurd cc; fixes = λ x command s h. absurd cc; proper = λ x command s h. absurd cc }
 
   -- a command with a number that is kept
   kept_row : (label : ℕ) (make : ℕ → Command) → ((n : ℕ) → label ≡ number_of (make n)) → ((n : ℕ) → i.Unsigned n ≡ argument (make n)) → ((n : ℕ) → Proper (make n)) → Fits label (λ x. kept make x)
-  kept_row label make numbers forms keeps = row number label make numbers forms (λ n _. keeps n)
+  kept_row label make numbers forms keeps = row (number none outside) label make numbers forms (λ n _. keeps n)
 
   kept_fits : (n : ℕ) → Fits n (λ x. kept_of n x)
   kept_fits n =
@@ -94,15 +91,15 @@ module _ (inner : Inner) (item : Sequence → Item) (P : Sequence → Type 0) (o
   -- each command has its number, its argument and its rules
   pub commands_fit : (n : ℕ) → Fits n (λ x. command_of inner n x)
   commands_fit n =
-      choose n 15 _ _ (row (alternatives_part inner item P one) 15 (λ t. c.TryEach t.0 t.1) (λ t. rw c.outs-TryEach refl) (λ t. rw c.outs-TryEach refl) (λ t is. rw c.outs-TryEach is))
-      (choose n 20 _ _ (row parameters_part 20 (λ v. c.Override v) (λ v. rw c.outs-Override refl) (λ v. rw c.outs-Override refl) (λ v is. rw c.outs-Override is))
+      choose n 15 _ _ (row (alternatives_part none outside inner item P one) 15 (λ t. c.TryEach t.0 t.1) (λ t. rw c.outs-TryEach refl) (λ t. rw c.outs-TryEach refl) (λ t is. rw c.outs-TryEach is))
+      (choose n 20 _ _ (row (parameters_part none outside) 20 (λ v. c.Override v) (λ v. rw c.outs-Override refl) (λ v. rw c.outs-Override refl) (λ v is. rw c.outs-Override is))
       (choose n 32 _ _ (row one 32 (λ s. c.RunSequence s) (λ s. rw c.outs-RunSequence refl) (λ s. rw c.outs-RunSequence refl) (λ s is. rw c.outs-RunSequence is))
       (kept_fits n)))
 
   -- ---- what was written
 
   kept_seen : (label : ℕ) (make : ℕ → Command) (l : Command-F Command) (n : ℕ) → roll-Command l ≡ make n → kept make (i.Unsigned n) ≡ Ok (roll-Command l)
-  kept_seen label make l n is = ap (λ (r : Result ℕ SequenceFault). mapped make r) (number.seen n tt) ∙ ap (λ (command : Command). Ok command) (sym is)
+  kept_seen label make l n is = ap (λ (r : Result ℕ SequenceFault). mapped make r) ((number none outside).seen n tt) ∙ ap (λ (command : Command). Ok command) (sym is)
 
   rolled_seen : (l : Command-F Command) → IsProperCommandBy P l → command_of inner (number_by l) (argument_by (wrap item) l) ≡ Ok (roll-Command l)
   rolled_seen (Command-F.Vendor n) is = kept_seen 1 (λ k. c.Vendor k) (Command-F.Vendor n) n (c.rolls-Vendor n)
@@ -115,9 +112,9 @@ module _ (inner : Inner) (item : Sequence → Item) (P : Sequence → Type 0) (o
   rolled_seen (Command-F.Copy n) is = kept_seen 22 (λ k. c.Copy k) (Command-F.Copy n) n (c.rolls-Copy n)
   rolled_seen (Command-F.SetIndex n) is = kept_seen 12 (λ k. c.SetIndex k) (Command-F.SetIndex n) n (c.rolls-SetIndex n)
   rolled_seen (Command-F.TryEach ss b) is =
-      let tries = alternatives_part inner item P one in
+      let tries = alternatives_part none outside inner item P one in
       ap (λ (r : Result (List Sequence × Bool) SequenceFault). mapped (λ (t : List Sequence × Bool). c.TryEach t.0 t.1) r) (tries.seen (ss, b) is) ∙ ap (λ (command : Command). Ok command) (sym (c.rolls-TryEach ss b))
-  rolled_seen (Command-F.Override v) is = ap (mapped (λ v. c.Override v)) (parameters_part.seen v is) ∙ ap (λ (command : Command). Ok command) (sym (c.rolls-Override v))
+  rolled_seen (Command-F.Override v) is = ap (mapped (λ v. c.Override v)) ((parameters_part none outside).seen v is) ∙ ap (λ (command : Command). Ok command) (sym (c.rolls-Override v))
   rolled_seen (Command-F.RunSequence s) is = ap (λ (r : Result Sequence SequenceFault). mapped (λ (s : Sequence). c.RunSequence s) r) (one.seen s is) ∙ ap (λ (command : Command). Ok command) (sym (c.rolls-RunSequence s))
 
   -- a command is read again

@@ -2,23 +2,17 @@
 use Rattle.std.proofs.Common.{◌≡◌, ℕ, zero, suc, List, refl}
 use Rattle.std.specs.Prelude.{Err}
 use Rattle.cbor_core.specs.declared.item.Item.TheVariants as i
-use Rattle.cbor_heads.specs.declared.fault.Fault.{Fault}
 use Rattle.item_codec.specs.Part.{Part}
 use Rattle.item_codec.specs.Wrapped.{wrap}
-use Rattle.suit_commands.specs.declared.fault.SequenceFault.TheVariants.{Cbor, Nesting, NoMemory, Shape}
+use Rattle.suit_commands.specs.declared.fault.SequenceFault.{SequenceFault}
+use Rattle.suit_commands.specs.declared.fault.SequenceFault.TheVariants.{Cbor, Nesting, Shape}
 use Rattle.suit_commands.specs.Reading.{in_bytes}
 use Rattle.suit_commands.specs.Sequences.{wrapped_sequence, sequence_by, sequence_in}
 use Rattle.suit_commands.specs.Written.{members, written_in}
 use Rattle.suit_commands.specs.Proper.{AreProperCommands, IsProperIn}
-use Rattle.suit_commands.proofs.Fields.{shape}
+use Rattle.suit_commands.proofs.Fields.{IsOutside}
 use Rattle.suit_commands.proofs.InBytes.{BytesPart, bytes_part, wrapping_part}
 use Rattle.suit_commands.proofs.Members.{sequence_part}
-
-cbor_told : (f : Fault) → Cbor f ≡ NoMemory → ⊥
-cbor_told f e = cc
-
-nesting_told : Nesting ≡ NoMemory → ⊥
-nesting_told e = cc
 
 -- ---- one level
 
@@ -32,30 +26,31 @@ one_more levels bytes = refl
 
 -- ---- the laws of each level
 
-abbrev pub Level : ℕ → Type 0
-Level levels = BytesPart NoMemory (sequence_in levels) (written_in levels) (IsProperIn levels)
+module _ (none : SequenceFault) (outside : IsOutside none) where
+  abbrev pub Level : ℕ → Type 0
+  Level levels = BytesPart none (sequence_in levels) (written_in levels) (IsProperIn levels)
 
-no_level : Level 0
-unfolding sequence_in IsProperIn
-no_level = record {
-  settled = λ bytes. nesting_told;
-  fixes = λ bytes v are e. absurd cc;
-  proper = λ bytes v are e. absurd cc;
-  seen = λ v is. absurd is;
-}
+  no_level : Level 0
+  unfolding sequence_in IsProperIn
+  no_level = record {
+    settled = λ bytes. outside.nesting;
+    fixes = λ bytes v are e. absurd cc;
+    proper = λ bytes v are e. absurd cc;
+    seen = λ v is. absurd is;
+  }
 
--- the sequence that a byte string wraps, as a part
-pub wrapped_at : (levels : ℕ) → Level levels → Part NoMemory (wrapped_sequence (sequence_in levels)) (wrap (written_in levels)) (IsProperIn levels)
-wrapped_at levels level = wrapping_part level Shape shape
+  -- the sequence that a byte string wraps, as a part
+  pub wrapped_at : (levels : ℕ) → Level levels → Part none (wrapped_sequence (sequence_in levels)) (wrap (written_in levels)) (IsProperIn levels)
+  wrapped_at levels level = wrapping_part level Shape outside.shape
 
-next_level : (levels : ℕ) → Level levels → Level (suc levels)
-unfolding sequence_in written_in IsProperIn
-next_level levels level = bytes_part (sequence_part (sequence_in levels) (written_in levels) (IsProperIn levels) (wrapped_at levels level)) (λ f. Cbor f) cbor_told
+  next_level : (levels : ℕ) → Level levels → Level (suc levels)
+  unfolding sequence_in written_in IsProperIn
+  next_level levels level = bytes_part (sequence_part none outside (sequence_in levels) (written_in levels) (IsProperIn levels) (wrapped_at levels level)) (λ f. Cbor f) outside.cbor
 
-pub level : (levels : ℕ) → Level levels
-level zero = no_level
-level (suc levels) = next_level levels (level levels)
+  pub level : (levels : ℕ) → Level levels
+  level zero = no_level
+  level (suc levels) = next_level levels (level levels)
 
--- the sequence of an item, as a part
-pub part_at : (levels : ℕ) → Part NoMemory (sequence_by (sequence_in levels)) (λ s. i.Array (members (wrap (written_in levels)) s)) (AreProperCommands (IsProperIn levels))
-part_at levels = sequence_part (sequence_in levels) (written_in levels) (IsProperIn levels) (wrapped_at levels (level levels))
+  -- the sequence of an item, as a part
+  pub part_at : (levels : ℕ) → Part none (sequence_by (sequence_in levels)) (λ s. i.Array (members (wrap (written_in levels)) s)) (AreProperCommands (IsProperIn levels))
+  part_at levels = sequence_part none outside (sequence_in levels) (written_in levels) (IsProperIn levels) (wrapped_at levels (level levels))

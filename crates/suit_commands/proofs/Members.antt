@@ -14,11 +14,11 @@ use Rattle.item_codec.proofs.Public.Settled.{fault_settled, then_settled}
 use Rattle.item_codec.proofs.Public.Arrays.{Makes, array_part}
 use Rattle.suit_commands.specs.declared.command.Command.{Command}
 use Rattle.suit_commands.specs.declared.fault.SequenceFault.{SequenceFault}
-use Rattle.suit_commands.specs.declared.fault.SequenceFault.TheVariants.{Shape, NoMemory}
+use Rattle.suit_commands.specs.declared.fault.SequenceFault.TheVariants.{Shape}
 use Rattle.suit_commands.specs.Sequences.{Sequence, Inner, wrapped_sequence, command_of, command_at, paired, commands, members_in, sequence_by}
 use Rattle.suit_commands.specs.Written.{number_of, members}
 use Rattle.suit_commands.specs.Proper.{AreProperCommands}
-use Rattle.suit_commands.proofs.Fields.{shape, number}
+use Rattle.suit_commands.proofs.Fields.{IsOutside, number}
 use Rattle.suit_commands.proofs.Arguments.{argument, Proper, commands_fit, command_seen}
 
 -- ---- items by two
@@ -46,34 +46,34 @@ pub flat_paired : (ps : List (Item × Item)) → paired (flat ps) ≡ Some ps
 flat_paired [] = refl
 flat_paired (p ∷ ps) = ap (λ (o : Option (List (Item × Item))). option_map (λ (qs : List (Item × Item)). (p.0, p.1) ∷ qs) o) (flat_paired ps)
 
-module _ (inner : Inner) (item : Sequence → Item) (P : Sequence → Type 0) (one : Part NoMemory (wrapped_sequence inner) (wrap item) P) where
+module _ (none : SequenceFault) (outside : IsOutside none) (inner : Inner) (item : Sequence → Item) (P : Sequence → Type 0) (one : Part none (wrapped_sequence inner) (wrap item) P) where
   -- ---- no refusal is want of memory
 
-  command_settled : (n x : Item) → IsSettled NoMemory (command_at inner n x)
-  command_settled n x = then_settled NoMemory (λ (k : ℕ). command_of inner k x) (shaped Shape unsigned_of n) (number.settled n) (λ k. (commands_fit inner item P one k).settled x)
+  command_settled : (n x : Item) → IsSettled none (command_at inner n x)
+  command_settled n x = then_settled none (λ (k : ℕ). command_of inner k x) (shaped Shape unsigned_of n) ((number none outside).settled n) (λ k. (commands_fit none outside inner item P one k).settled x)
 
-  commands_settled : (ps : List (Item × Item)) → IsSettled NoMemory (commands inner ps)
+  commands_settled : (ps : List (Item × Item)) → IsSettled none (commands inner ps)
   commands_settled [] = tt
   commands_settled (p ∷ ps) =
-      then_settled NoMemory (λ (command : Command). mapped (λ (more : Sequence). command ∷ more) (commands inner ps)) (command_at inner p.0 p.1) (command_settled p.0 p.1) (λ command.
-      then_settled NoMemory (λ (more : Sequence). Ok (command ∷ more)) (commands inner ps) (commands_settled ps) (λ _. tt))
+      then_settled none (λ (command : Command). mapped (λ (more : Sequence). command ∷ more) (commands inner ps)) (command_at inner p.0 p.1) (command_settled p.0 p.1) (λ command.
+      then_settled none (λ (more : Sequence). Ok (command ∷ more)) (commands inner ps) (commands_settled ps) (λ _. tt))
 
-  members_settled : (xs : List Item) → IsSettled NoMemory (members_in inner xs)
-  members_settled xs = then_settled NoMemory (commands inner) (or_fault Shape (paired xs)) (fault_settled NoMemory Shape shape (paired xs)) commands_settled
+  members_settled : (xs : List Item) → IsSettled none (members_in inner xs)
+  members_settled xs = then_settled none (commands inner) (or_fault Shape (paired xs)) (fault_settled none Shape outside.shape (paired xs)) commands_settled
 
   -- ---- what was read
 
   record IsRead (n x : Item) (command : Command) : Type 0 where
     numbered : n ≡ i.Unsigned (number_of command)
-    is : x ≡ argument inner item P one command
-    proper : Proper inner item P one command
+    is : x ≡ argument none outside inner item P one command
+    proper : Proper none outside inner item P one command
 
   by_number : (n x : Item) (command : Command) → IsSpelled n → IsSpelled x → (r : Result ℕ SequenceFault) → shaped Shape unsigned_of n ≡ r
       → and_then (λ (k : ℕ). command_of inner k x) r ≡ Ok command → IsRead n x command
   by_number n x command s t (Err e) at h = absurd cc
   by_number n x command s t (Ok k) at h =
-      let fits = commands_fit inner item P one k in
-      record { numbered = number.fixes n k s at ∙ ap (λ (m : ℕ). i.Unsigned m) (fits.numbered x command h); is = fits.fixes x command t h; proper = fits.proper x command t h }
+      let fits = commands_fit none outside inner item P one k in
+      record { numbered = (number none outside).fixes n k s at ∙ ap (λ (m : ℕ). i.Unsigned m) (fits.numbered x command h); is = fits.fixes x command t h; proper = fits.proper x command t h }
 
   command_read : (n x : Item) (command : Command) → IsSpelled n → IsSpelled x → command_at inner n x ≡ Ok command → IsRead n x command
   command_read n x command s t h = by_number n x command s t (shaped Shape unsigned_of n) refl h
@@ -88,9 +88,9 @@ module _ (inner : Inner) (item : Sequence → Item) (P : Sequence → Type 0) (o
   by_more p ps s command first (Ok t) at rest h =
       let same : command ∷ t ≡ s = cc in
       let behind = rest t at in
-      let front : p.0 ∷ p.1 ∷ flat ps ≡ i.Unsigned (number_of command) ∷ argument inner item P one command ∷ members (wrap item) t =
+      let front : p.0 ∷ p.1 ∷ flat ps ≡ i.Unsigned (number_of command) ∷ argument none outside inner item P one command ∷ members (wrap item) t =
       ap (λ (x : Item). x ∷ p.1 ∷ flat ps) first.numbered ∙ ap (λ (x : Item). i.Unsigned (number_of command) ∷ x ∷ flat ps) first.is
-      ∙ ap (λ (xs : List Item). i.Unsigned (number_of command) ∷ argument inner item P one command ∷ xs) behind.is in
+      ∙ ap (λ (xs : List Item). i.Unsigned (number_of command) ∷ argument none outside inner item P one command ∷ xs) behind.is in
       let read : AreRead (p ∷ ps) (command ∷ t) = record { is = front; proper = (first.proper, behind.proper) } in
       subst (λ (u : Sequence). AreRead (p ∷ ps) u) same read
 
@@ -119,15 +119,15 @@ module _ (inner : Inner) (item : Sequence → Item) (P : Sequence → Type 0) (o
   -- the numbers and arguments of commands
   abbrev pairs_of : Sequence → List (Item × Item)
   pairs_of [] = []
-  pairs_of (command ∷ more) = (i.Unsigned (number_of command), argument inner item P one command) ∷ pairs_of more
+  pairs_of (command ∷ more) = (i.Unsigned (number_of command), argument none outside inner item P one command) ∷ pairs_of more
 
   members_flat : (s : Sequence) → members (wrap item) s ≡ flat (pairs_of s)
   members_flat [] = refl
-  members_flat (command ∷ more) = ap (λ (xs : List Item). i.Unsigned (number_of command) ∷ argument inner item P one command ∷ xs) (members_flat more)
+  members_flat (command ∷ more) = ap (λ (xs : List Item). i.Unsigned (number_of command) ∷ argument none outside inner item P one command ∷ xs) (members_flat more)
 
-  command_again : (command : Command) → Proper inner item P one command → command_at inner (i.Unsigned (number_of command)) (argument inner item P one command) ≡ Ok command
+  command_again : (command : Command) → Proper none outside inner item P one command → command_at inner (i.Unsigned (number_of command)) (argument none outside inner item P one command) ≡ Ok command
   command_again command is =
-      ap (λ (r : Result ℕ SequenceFault). and_then (λ (k : ℕ). command_of inner k (argument inner item P one command)) r) (number.seen (number_of command) tt) ∙ command_seen inner item P one command is
+      ap (λ (r : Result ℕ SequenceFault). and_then (λ (k : ℕ). command_of inner k (argument none outside inner item P one command)) r) ((number none outside).seen (number_of command) tt) ∙ command_seen none outside inner item P one command is
 
   commands_again : (s : Sequence) → AreProperCommands P s → commands inner (pairs_of s) ≡ Ok s
   commands_again [] all = refl
@@ -142,12 +142,12 @@ module _ (inner : Inner) (item : Sequence → Item) (P : Sequence → Type 0) (o
 
   -- ---- the array as a part
 
-  makes : (xs : List Item) → Makes NoMemory (members (wrap item)) (members_in inner xs) xs (AreProperCommands P)
+  makes : (xs : List Item) → Makes none (members (wrap item)) (members_in inner xs) xs (AreProperCommands P)
   makes xs = record {
     settled = members_settled xs;
     back = λ all s h. (let r = by_pairs xs s all (paired xs) refl h in r.is);
     proper = λ all s h. (let r = by_pairs xs s all (paired xs) refl h in r.proper);
   }
 
-  pub sequence_part : Part NoMemory (sequence_by inner) (λ s. i.Array (members (wrap item) s)) (AreProperCommands P)
-  sequence_part = array_part NoMemory Shape (members_in inner) (members (wrap item)) (AreProperCommands P) shape makes members_seen
+  pub sequence_part : Part none (sequence_by inner) (λ s. i.Array (members (wrap item) s)) (AreProperCommands P)
+  sequence_part = array_part none Shape (members_in inner) (members (wrap item)) (AreProperCommands P) outside.shape makes members_seen

@@ -16,6 +16,7 @@ use Rattle.suit_commands.specs.Reading.{in_bytes}
 use Rattle.suit_commands.specs.Sequences.{Sequence, SequenceIs, sequence_by, sequence_in}
 use Rattle.suit_commands.specs.Written.{members, written_in}
 use Rattle.suit_commands.specs.Proper.{AreProperCommands, IsProperIn, IsProperSequence}
+use Rattle.suit_commands.proofs.Fields.{memory_outside}
 use Rattle.suit_commands.proofs.InBytes.{item_is, fault_is}
 use Rattle.suit_commands.proofs.Levels.{none_left, one_more, level}
 
@@ -79,10 +80,10 @@ item_proper zero s is = absurd is
 item_proper (suc n) s is = is.1.proper
 
 pub writes : (s : Sequence) → IsProperSequence s → (r : Result (List ℕ) WantOfMemory) → IfOk r (λ bytes. Spells (written_in 9 s) bytes) → IfOk r (λ bytes. SequenceIs s bytes)
-writes s is (Ok bytes) spelled = subst (λ (b : List ℕ). SequenceIs s b) (sym spelled.spelled) ((level 9).seen s is)
+writes s is (Ok bytes) spelled = subst (λ (b : List ℕ). SequenceIs s b) (sym spelled.spelled) ((level NoMemory memory_outside 9).seen s is)
 writes s is (Err e) spelled = tt
 
 pub writes_one : (s : Sequence) → (r : Result (List ℕ) WantOfMemory) → IfOk r (λ bytes. Spells (written_in 9 s) bytes)
     → IfOk r (λ bytes. (other : List ℕ) → IsBytes other → SequenceIs s other → other ≡ bytes)
-writes_one s (Ok bytes) spelled = λ other are is. (level 9).fixes other s are is ∙ sym spelled.spelled
+writes_one s (Ok bytes) spelled = λ other are is. (level NoMemory memory_outside 9).fixes other s are is ∙ sym spelled.spelled
 writes_one s (Err e) spelled = tt

@@ -8,7 +8,7 @@ use Rattle.item_codec.specs.Part.{Part, Exact}
 use Rattle.item_codec.specs.Whole.{BytesGive}
 use Rattle.item_codec.specs.Wrapped.{wrap}
 use Rattle.suit_commands.specs.declared.fault.SequenceFault.{SequenceFault}
-use Rattle.suit_commands.specs.declared.fault.SequenceFault.TheVariants.{Cbor, Nesting, NoMemory}
+use Rattle.suit_commands.specs.declared.fault.SequenceFault.TheVariants.{Cbor, Nesting, Index, NoMemory}
 use Rattle.suit_commands.specs.Digests.{digest_of, wrapped_digest_of, digest_item, IsProperDigest, IsWrappableDigest}
 use Rattle.suit_commands.specs.Parameters.{unknown, parameters_in, parameters_of, table, parameters_item, AreProper}
 use Rattle.suit_commands.specs.Sequences.{Sequence, sequence_in, sequence_by, SequenceIs}
@@ -34,12 +34,13 @@ pub record ByBytes : Type 0 where
       → (sequence_in (suc levels) bytes ≡ r) ↔ BytesGive (λ f. Cbor f) (sequence_by (sequence_in levels)) bytes r
   pub none_left : (bytes : List ℕ) → sequence_in 0 bytes ≡ Err Nesting
 
--- the one answer of bytes: a sequence, or a refusal that is not want of memory
+-- the one answer of bytes: a sequence, or a refusal that is neither want of memory nor said of an index
 pub record OneReading (bytes : List ℕ) : Type 0 where
   pub answer : Result Sequence SequenceFault
   pub given : sequence_in 9 bytes ≡ answer
   pub alone : (other : Result Sequence SequenceFault) → sequence_in 9 bytes ≡ other → other ≡ answer
   pub settled : answer ≡ Err NoMemory → ⊥
+  pub no_index : (n : ℕ) → answer ≡ Err (Index n) → ⊥
 
 -- bytes are exactly one sequence, or have exactly one refusal, and never both
 abbrev pub ExactlyOne : Type 0

@@ -25,7 +25,8 @@ pub fn sequences_by_bytes()
     ensures { ByBytes }
 {}
 
-/// Each list of bytes is one sequence, or has one refusal, and never both.
+/// Each list of bytes is one sequence, or has one refusal, and never both. Want of memory and `Index`
+/// are none of the refusals.
 pub fn exactly_one()
     ensures { ExactlyOne }
 {}

@@ -1,8 +1,12 @@
+ghost use Rattle.std.specs.Prelude.{IfOk};
+ghost use Rattle.suit_commands.specs.Proper.{IsProperSequence};
+
 use crate::{
-    Command, Digest, DigestAlgorithm, SequenceFault, digests_are_codec, exactly_one, one_spelling,
-    parameters_are_codec, proper_sequences, read, refused_in_order, sequences_by_bytes, write,
+    Command, Digest, DigestAlgorithm, Sequence, SequenceFault, digests_are_codec, exactly_one,
+    one_spelling, parameters_are_codec, proper_sequences, read, refused_in_order,
+    sequences_by_bytes, write,
 };
-use base_types::{Octets, OrMemory};
+use base_types::{List, Octets, OrMemory};
 use cbor_core::{Fault, Why};
 use std::alloc::Global;
 use std::test::Fail;
@@ -291,6 +295,27 @@ fn sequences_are_written_as_they_were_read(rt: HostRuntime) -> Result<(), Fail> 
         let again = written(alloc, bytes)?;
         assert_eq!(rt; again.as_slice(), *bytes, "row {at}");
     }
+    Ok(())
+}
+
+// The sequence [12, 1, 21, 15], made by hand.
+fn made(alloc: Global) -> OrMemory<Sequence>
+    ensures { IfOk result (λ sequence. IsProperSequence sequence) }
+{
+    let mut sequence = List::new(alloc);
+    sequence.push(Command::SetIndex(1))?;
+    sequence.push(Command::Fetch(15))?;
+    Ok(sequence)
+}
+
+#[test]
+fn a_sequence_that_was_never_read_is_written(rt: HostRuntime) -> Result<(), Fail> {
+    let alloc = rt.alloc();
+    let sequence = made(alloc)?;
+    let bytes = write(alloc, &sequence)?;
+    let want = [0x84, 12, 1, 21, 15];
+    assert_eq!(rt; bytes.as_slice(), want.as_slice());
+    assert!(rt; read(alloc, &want)? == sequence);
     Ok(())
 }
 
