@@ -127,7 +127,8 @@ module _ (none : SequenceFault) (outside : IsOutside none) (inner : Inner) (item
 
   command_again : (command : Command) → Proper none outside inner item P one command → command_at inner (i.Unsigned (number_of command)) (argument none outside inner item P one command) ≡ Ok command
   command_again command is =
-      ap (λ (r : Result ℕ SequenceFault). and_then (λ (k : ℕ). command_of inner k (argument none outside inner item P one command)) r) ((number none outside).seen (number_of command) tt) ∙ command_seen none outside inner item P one command is
+      ap (λ (r : Result ℕ SequenceFault). and_then (λ (k : ℕ). command_of inner k (argument none outside inner item P one command)) r) ((number none outside).seen (number_of command) tt)
+      ∙ command_seen none outside inner item P one command is
 
   commands_again : (s : Sequence) → AreProperCommands P s → commands inner (pairs_of s) ≡ Ok s
   commands_again [] all = refl
