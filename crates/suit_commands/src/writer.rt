@@ -27,7 +27,8 @@ use std::alloc::Global;
 /// - at most 9 levels of sequences stand inside one another, itself the first;
 /// - each `TryEach` has an alternative, or `null_last` is true;
 /// - each digest has the size of its algorithm's;
-/// - bytes spell the item of each, as they do for values of a running program.
+/// - bytes spell the item of each level (RFC 8949, section 4.2.1): numbers and lengths have 64 bits, bytes
+///   8, and texts are UTF-8.
 ///
 /// Each sequence that was read is proper, and each that is proper is some bytes (`proper_sequences`).
 pub fn write(alloc: Global, sequence: &Sequence) -> OrMemory<Octets>
