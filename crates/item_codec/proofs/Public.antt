@@ -9,3 +9,4 @@ pub mod Wraps
 pub mod Whole
 pub mod InOrder
 pub mod Passed
+pub mod InBytes

@@ -5,3 +5,4 @@ pub mod Ordered
 pub mod InOrder
 pub mod Wrapped
 pub mod Whole
+pub mod InBytes

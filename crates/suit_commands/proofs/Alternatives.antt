@@ -16,12 +16,13 @@ use Rattle.item_codec.proofs.Public.Settled.{then_settled}
 use Rattle.item_codec.proofs.Public.Arrays.{Makes, array_part}
 use Rattle.suit_commands.specs.declared.fault.SequenceFault.{SequenceFault}
 use Rattle.suit_commands.specs.declared.fault.SequenceFault.TheVariants.{Shape}
-use Rattle.suit_commands.specs.Sequences.{Sequence, Inner, wrapped_sequence, null_by, last_alternative, alternatives}
+use Rattle.cbor_core.specs.Views.{is_null}
+use Rattle.suit_commands.specs.Sequences.{Sequence, Inner, wrapped_sequence, last_alternative, alternatives}
 use Rattle.suit_commands.specs.Written.{alternative_items}
 use Rattle.suit_commands.specs.Proper.{HasAlternative}
 use Rattle.suit_commands.proofs.Fields.{IsOutside}
 
-null_rolled : (l : Item-F Item Pair) → null_by l ≡ true → roll-Item l ≡ i.Null
+null_rolled : (l : Item-F Item Pair) → is_null l ≡ true → roll-Item l ≡ i.Null
 null_rolled Item-F.Null e = i.rolls-Null
 null_rolled _ e = absurd cc
 
@@ -40,7 +41,7 @@ more_of s t = (s ∷ t.0, t.1)
 abbrev pub ended_by : Bool → List Sequence → List Sequence × Bool
 ended_by null_last ss = (ss, null_last)
 
-null_is : (x : Item) → null_by (out-Item x) ≡ true → x ≡ i.Null
+null_is : (x : Item) → is_null (out-Item x) ≡ true → x ≡ i.Null
 null_is x e = sym (roll-out-Item x) ∙ null_rolled (out-Item x) e
 
 module _ (none : SequenceFault) (outside : IsOutside none) (inner : Inner) (item : Sequence → Item) (P : Sequence → Type 0) (one : Part none (wrapped_sequence inner) (wrap item) P) where
@@ -59,7 +60,7 @@ module _ (none : SequenceFault) (outside : IsOutside none) (inner : Inner) (item
 
   settled : (xs : List Item) → IsSettled none (alternatives inner xs)
   settled [] = outside.shape
-  settled (x ∷ []) = last_settled x (null_by (out-Item x))
+  settled (x ∷ []) = last_settled x (is_null (out-Item x))
   settled (x ∷ y ∷ xs) =
       then_settled none (λ (s : Sequence). mapped (more_of s) (alternatives inner (y ∷ xs))) (wrapped_sequence inner x) (one.settled x) (λ s.
       then_settled none (λ (t : List Sequence × Bool). Ok (more_of s t)) (alternatives inner (y ∷ xs)) (settled (y ∷ xs)) (λ _. tt))
@@ -80,7 +81,7 @@ module _ (none : SequenceFault) (outside : IsOutside none) (inner : Inner) (item
       let same : alone s ≡ t = cc in
       same_read (x ∷ []) (alone s) t same (record { is = ap (λ (y : Item). y ∷ []) (one.fixes x s sp at); proper = (tt, (one.proper x s sp at, tt)) })
 
-  last_read : (x : Item) (t : List Sequence × Bool) → IsSpelled x → (b : Bool) → null_by (out-Item x) ≡ b
+  last_read : (x : Item) (t : List Sequence × Bool) → IsSpelled x → (b : Bool) → is_null (out-Item x) ≡ b
       → cond b (Ok null_alone) (mapped alone (wrapped_sequence inner x)) ≡ Ok t → AreRead (x ∷ []) t
   last_read x t sp true null h =
       let same : null_alone ≡ t = cc in
@@ -107,7 +108,7 @@ module _ (none : SequenceFault) (outside : IsOutside none) (inner : Inner) (item
 
   all_read : (xs : List Item) (t : List Sequence × Bool) → AllByRecursion IsSpelled xs → alternatives inner xs ≡ Ok t → AreRead xs t
   all_read [] t all h = absurd cc
-  all_read (x ∷ []) t all h = last_read x t all.0 (null_by (out-Item x)) refl h
+  all_read (x ∷ []) t all h = last_read x t all.0 (is_null (out-Item x)) refl h
   all_read (x ∷ y ∷ xs) t all h =
       first_read x (y ∷ xs) t all.0 (wrapped_sequence inner x) refl (alternatives inner (y ∷ xs)) (λ u e. all_read (y ∷ xs) u all.1 e) h
 
@@ -115,7 +116,7 @@ module _ (none : SequenceFault) (outside : IsOutside none) (inner : Inner) (item
 
   last_seen : (s : Sequence) → P s → alternatives inner (wrap item s ∷ []) ≡ Ok (alone s)
   last_seen s is =
-      let other : null_by (out-Item (wrap item s)) ≡ false = rw i.outs-Bytes refl in
+      let other : is_null (out-Item (wrap item s)) ≡ false = rw i.outs-Bytes refl in
       let read : last_alternative inner (wrap item s) ≡ mapped alone (wrapped_sequence inner (wrap item s)) = ap (λ (b : Bool). cond b (Ok null_alone) (mapped alone (wrapped_sequence inner (wrap item s)))) other in
       read ∙ ap (λ (r : Result Sequence SequenceFault). mapped alone r) (one.seen s is)
 

@@ -6,12 +6,12 @@ use Rattle.item_codec.specs.Part.{Part}
 use Rattle.item_codec.specs.Wrapped.{wrap}
 use Rattle.suit_commands.specs.declared.fault.SequenceFault.{SequenceFault}
 use Rattle.suit_commands.specs.declared.fault.SequenceFault.TheVariants.{Cbor, Nesting, Shape}
-use Rattle.suit_commands.specs.Reading.{in_bytes}
+use Rattle.item_codec.specs.InBytes.{in_bytes}
 use Rattle.suit_commands.specs.Sequences.{wrapped_sequence, sequence_by, sequence_in}
 use Rattle.suit_commands.specs.Written.{members, written_in}
 use Rattle.suit_commands.specs.Proper.{AreProperCommands, IsProperIn}
 use Rattle.suit_commands.proofs.Fields.{IsOutside}
-use Rattle.suit_commands.proofs.InBytes.{BytesPart, bytes_part, wrapping_part}
+use Rattle.item_codec.proofs.Public.InBytes.{BytesPart, bytes_part, wrapping_part}
 use Rattle.suit_commands.proofs.Members.{sequence_part}
 
 -- ---- one level

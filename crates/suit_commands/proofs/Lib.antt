@@ -1,6 +1,5 @@
 mod Fields
 mod Order
-mod InBytes
 mod Alternatives
 mod Arguments
 mod Members

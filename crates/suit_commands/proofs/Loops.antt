@@ -10,7 +10,8 @@ use Rattle.suit_commands.specs.declared.command.Command.{Command, out-Command}
 use Rattle.suit_commands.specs.declared.command.Command.TheVariants as c
 use Rattle.suit_commands.specs.declared.fault.SequenceFault.{SequenceFault}
 use Rattle.suit_commands.specs.declared.fault.SequenceFault.TheVariants.{Shape, NoMemory}
-use Rattle.suit_commands.specs.Sequences.{Sequence, Inner, command_at, paired, commands, members_in, wrapped_sequence, each_wrapped, null_by, alternatives, try_in}
+use Rattle.cbor_core.specs.Views.{is_null}
+use Rattle.suit_commands.specs.Sequences.{Sequence, Inner, command_at, paired, commands, members_in, wrapped_sequence, each_wrapped, alternatives, try_in}
 use Rattle.suit_commands.specs.Written.{number_of, argument_by, members}
 use Rattle.suit_commands.proofs.Members.{flat, paired_flat}
 use Rattle.suit_commands.proofs.Alternatives.{alone, more_of, ended_by}
@@ -164,7 +165,7 @@ module _ (inner : Inner) where
   before b (Ok s) (Err e) others is = ap (λ (o : Result (List Sequence × Bool) SequenceFault). mapped (more_of s) o) is
   before b (Ok s) (Ok ss) others is = ap (λ (o : Result (List Sequence × Bool) SequenceFault). mapped (more_of s) o) is
 
-  last_null : (first : List Item) (last : Item) → null_by (out-Item last) ≡ true → alternatives inner (first ++ last ∷ []) ≡ mapped (ended_by true) (each_wrapped inner first)
+  last_null : (first : List Item) (last : Item) → is_null (out-Item last) ≡ true → alternatives inner (first ++ last ∷ []) ≡ mapped (ended_by true) (each_wrapped inner first)
   last_null [] last null = rw null refl
   last_null (x ∷ xs) last null = more_alternatives x xs last ∙ before true (wrapped_sequence inner x) (each_wrapped inner xs) (alternatives inner (xs ++ last ∷ [])) (last_null xs last null)
 
@@ -173,7 +174,7 @@ module _ (inner : Inner) where
   single (Ok s) = refl
   single (Err e) = refl
 
-  last_other : (first : List Item) (last : Item) → null_by (out-Item last) ≡ false
+  last_other : (first : List Item) (last : Item) → is_null (out-Item last) ≡ false
       → alternatives inner (first ++ last ∷ []) ≡ mapped (ended_by false) (each_wrapped inner (first ++ last ∷ []))
   last_other [] last null = rw null (single (wrapped_sequence inner last))
   last_other (x ∷ xs) last null = more_alternatives x xs last ∙ before false (wrapped_sequence inner x) (each_wrapped inner (xs ++ last ∷ [])) (alternatives inner (xs ++ last ∷ [])) (last_other xs last null)
@@ -182,19 +183,19 @@ module _ (inner : Inner) where
 abbrev pub wrapped_part_of : List Item → List Item → Bool → List Item
 wrapped_part_of xs first null_last = cond null_last first xs
 
-pub try_is : (inner : Inner) (xs first : List Item) (last : Item) (null_last : Bool) → xs ≡ first ++ last ∷ [] → null_last ≡ null_by (out-Item last)
+pub try_is : (inner : Inner) (xs first : List Item) (last : Item) (null_last : Bool) → xs ≡ first ++ last ∷ [] → null_last ≡ is_null (out-Item last)
     → alternatives inner xs ≡ mapped (ended_by null_last) (each_wrapped inner (wrapped_part_of xs first null_last))
 try_is inner xs first last true is null = ap (alternatives inner) is ∙ last_null inner first last (sym null)
 try_is inner xs first last false is null = ap (alternatives inner) is ∙ last_other inner first last (sym null) ∙ ap (λ (ys : List Item). mapped (ended_by false) (each_wrapped inner ys)) (sym is)
 
 -- the exits of the reader of alternatives
-pub try_reads : (inner : Inner) (xs first : List Item) (last : Item) (null_last : Bool) (ss : List Sequence) → xs ≡ first ++ last ∷ [] → null_last ≡ null_by (out-Item last)
+pub try_reads : (inner : Inner) (xs first : List Item) (last : Item) (null_last : Bool) (ss : List Sequence) → xs ≡ first ++ last ∷ [] → null_last ≡ is_null (out-Item last)
     → each_wrapped inner (wrapped_part_of xs first null_last) ≡ Ok ss → try_in inner xs ≡ Ok (c.TryEach ss null_last)
 try_reads inner xs first last null_last ss is null each =
     ap (λ (r : Result (List Sequence × Bool) SequenceFault). mapped (λ (t : List Sequence × Bool). c.TryEach t.0 t.1) r)
     (try_is inner xs first last null_last is null ∙ ap (λ (r : Result (List Sequence) SequenceFault). mapped (ended_by null_last) r) each)
 
-pub try_stops : (inner : Inner) (xs first : List Item) (last : Item) (null_last : Bool) (e : SequenceFault) → xs ≡ first ++ last ∷ [] → null_last ≡ null_by (out-Item last)
+pub try_stops : (inner : Inner) (xs first : List Item) (last : Item) (null_last : Bool) (e : SequenceFault) → xs ≡ first ++ last ∷ [] → null_last ≡ is_null (out-Item last)
     → Answers {V = List Sequence} NoMemory (each_wrapped inner (wrapped_part_of xs first null_last)) (Err e) → Answers {V = Command} NoMemory (try_in inner xs) (Err e)
 try_stops inner xs first last null_last e is null (inr memory) = inr memory
 try_stops inner xs first last null_last e is null (inl each) =

@@ -12,12 +12,12 @@ use Rattle.item_codec.specs.Answers.{and_then, Answers, IsAnswer}
 use Rattle.item_codec.specs.Wrapped.{wrap}
 use Rattle.suit_commands.specs.declared.fault.SequenceFault.{SequenceFault}
 use Rattle.suit_commands.specs.declared.fault.SequenceFault.TheVariants.{Cbor, Nesting, NoMemory}
-use Rattle.suit_commands.specs.Reading.{in_bytes}
+use Rattle.item_codec.specs.InBytes.{in_bytes}
 use Rattle.suit_commands.specs.Sequences.{Sequence, SequenceIs, sequence_by, sequence_in}
 use Rattle.suit_commands.specs.Written.{members, written_in}
 use Rattle.suit_commands.specs.Proper.{AreProperCommands, IsProperIn, IsProperSequence}
 use Rattle.suit_commands.proofs.Fields.{memory_outside}
-use Rattle.suit_commands.proofs.InBytes.{item_is, fault_is}
+use Rattle.item_codec.proofs.Public.InBytes.{item_is, fault_is}
 use Rattle.suit_commands.proofs.Levels.{none_left, one_more, level}
 
 -- ---- what an answer tells

@@ -2,6 +2,7 @@
 use Rattle.std.specs.Prelude.{ℕ, ◌≡◌, ◌==◌, List, [], ◌∷◌, length, Option, Some, None, Result, Ok, Err, if◌then◌else◌}
 use Rattle.sha2.specs.Sha256.{sha256}
 use Rattle.sha2.specs.Sha512.{sha384, sha512}
+use Rattle.base_types.specs.Bytes.{IsBytes}
 use Rattle.cbor_core.specs.declared.item.Item.{Item, out-Item}
 use Rattle.cbor_core.specs.declared.item.Item.TheOpen.{Item-F}
 use Rattle.cbor_core.specs.declared.item.Item.TheVariants as i
@@ -81,9 +82,9 @@ digest_members v = algorithm_item v.algorithm ∷ i.Bytes v.bytes ∷ []
 abbrev pub digest_item : Digest → Item
 digest_item v = i.Array (digest_members v)
 
--- a digest has the size of its algorithm's
+-- a digest is bytes, as many as its algorithm's
 abbrev pub IsProperDigest : Digest → Type 0
-IsProperDigest v = length v.bytes ≡ size_of v.algorithm
+IsProperDigest v = IsBytes v.bytes × (length v.bytes ≡ size_of v.algorithm)
 
 -- and bytes spell the array of it, so that it may be wrapped
 abbrev pub IsWrappableDigest : Digest → Type 0

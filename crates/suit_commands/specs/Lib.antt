@@ -1,6 +1,5 @@
 pub mod Digests
 pub mod Parameters
-pub mod Reading
 pub mod Sequences
 pub mod Written
 pub mod Proper

@@ -3,7 +3,7 @@ use Rattle.std.specs.Prelude.{ℕ, zero, suc, ◌≡◌, ◌==◌, Bool, true, f
 use Rattle.cbor_core.specs.declared.item.Item.{Item, out-Item}
 use Rattle.cbor_core.specs.declared.item.Item.TheOpen.{Item-F}
 use Rattle.cbor_core.specs.declared.item.Pair.{Pair}
-use Rattle.cbor_core.specs.Views.{unsigned_of, bytes_of}
+use Rattle.cbor_core.specs.Views.{unsigned_of, bytes_of, is_null}
 use Rattle.item_codec.specs.Answers.{and_then, mapped, or_fault}
 use Rattle.item_codec.specs.Fields.{shaped, part, in_array}
 use Rattle.suit_commands.specs.declared.command.Command.{Command}
@@ -11,7 +11,7 @@ use Rattle.suit_commands.specs.declared.command.Command.TheVariants as c
 use Rattle.suit_commands.specs.declared.fault.SequenceFault.{SequenceFault}
 use Rattle.suit_commands.specs.declared.fault.SequenceFault.TheVariants as faults
 use Rattle.suit_commands.specs.Parameters.{parameters_of}
-use Rattle.suit_commands.specs.Reading.{in_bytes}
+use Rattle.item_codec.specs.InBytes.{in_bytes}
 
 -- a sequence, its commands in order
 abbrev pub Sequence : Type 0
@@ -27,14 +27,9 @@ Inner = List ℕ → Result Sequence SequenceFault
 abbrev pub wrapped_sequence : Inner → Item → Result Sequence SequenceFault
 wrapped_sequence inner x = and_then inner (or_fault faults.Shape (bytes_of x))
 
--- an item is null, by its layer
-abbrev pub null_by : Item-F Item Pair → Bool
-null_by Item-F.Null = true
-null_by _ = false
-
 -- the last alternative: null, or a wrapped sequence
 abbrev pub last_alternative : Inner → Item → Result (List Sequence × Bool) SequenceFault
-last_alternative inner x = if null_by (out-Item x) then Ok ([], true) else mapped (λ s. (s ∷ [], false)) (wrapped_sequence inner x)
+last_alternative inner x = if is_null (out-Item x) then Ok ([], true) else mapped (λ s. (s ∷ [], false)) (wrapped_sequence inner x)
 
 -- one or more alternatives, and whether the last is null: each a wrapped sequence, but for the last
 abbrev pub alternatives : Inner → List Item → Result (List Sequence × Bool) SequenceFault

@@ -3,10 +3,10 @@ ghost use Rattle.cbor_core.specs.declared.item.Item.{out-Item};
 ghost use Rattle.item_codec.specs.Answers.{Answers, IsAnswer};
 ghost use Rattle.item_codec.specs.Fields.{shaped, in_array};
 ghost use Rattle.cbor_core.specs.Views.{unsigned_of};
+ghost use Rattle.cbor_core.specs.Views as Views;
 ghost use Rattle.suit_commands.specs.declared.command.Command.{Command};
 ghost use Rattle.suit_commands.specs.declared.fault.SequenceFault.{SequenceFault};
 ghost use Rattle.suit_commands.specs.Sequences.{Sequence, SequenceIs, RefusedAs, sequence_in, sequence_by, members_in, wrapped_sequence, each_wrapped, try_each, try_in, kept_of, command_of, command_at};
-ghost use Rattle.suit_commands.specs.Sequences as Sequences;
 
 use crate::command::{Command, SEQUENCE_LEVELS, Sequence};
 use crate::fault::SequenceFault;
@@ -155,7 +155,7 @@ fn read_each(alloc: Global, inside: u8, items: &[Item]) -> Result<List<Sequence>
 
 /// Whether an item is null.
 fn is_null(item: &Item) -> bool
-    ensures { result ≡ Sequences.null_by (out-Item item.now) }
+    ensures { result ≡ Views.is_null (out-Item item.now) }
 {
     match item {
         Item::Null => true,

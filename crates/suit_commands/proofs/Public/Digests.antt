@@ -2,6 +2,7 @@
 use Rattle.std.proofs.Common.{◌≡◌, ℕ, Bool, true, false, cond, List, [], ◌∷◌, length, Some, None, refl, ap, ◌∙◌, arith}
 use Rattle.std.specs.Prelude.{◌==◌, ◌≤◌, Ok}
 use Rattle.std.proofs.lemmas.Bool.{eqb-true}
+use Rattle.base_types.specs.Bytes.{IsBytes}
 use Rattle.cbor_core.specs.declared.item.Item.{Item}
 use Rattle.cbor_core.specs.declared.item.Item.TheOpen.{Item-F}
 use Rattle.cbor_core.specs.declared.item.Item.TheVariants as i
@@ -61,20 +62,20 @@ bytes_part n = sized_part NoMemory n n Shape Shape told told
 size_is : (n m : ℕ) → (n ≤ m) × (m ≤ n) → m ≡ n
 size_is n m is = let low : n ≤ m = is.0 in let high : m ≤ n = is.1 in omega arith
 
-size_within : (n m : ℕ) → m ≡ n → (n ≤ m) × (m ≤ n)
-size_within n m is = (omega arith, omega arith)
+sized_bytes : (n : ℕ) (bytes : List ℕ) → IsBytes bytes → length bytes ≡ n → IsWithin n n bytes
+sized_bytes n bytes are is = (are, omega arith, omega arith)
 
 digest_makes : (xs : List Item) → Makes NoMemory digest_members (digest_in xs) xs IsProperDigest
 digest_makes (a ∷ b ∷ []) =
     part_makes algorithm_part a digest_members _ (λ x. x ∷ b ∷ []) (λ all. all.0) (λ algorithm.
     part_makes (bytes_part (size_of algorithm)) b digest_members _ (λ x. _ ∷ x ∷ []) (λ all. all.1.0) (λ bytes.
-    all_made NoMemory digest_members _ _ refl (λ size _. size_is (size_of algorithm) (length bytes) size)))
+    all_made NoMemory digest_members _ _ refl (λ size _. (size.0, size_is (size_of algorithm) (length bytes) (size.1, size.2)))))
 digest_makes xs = none_made NoMemory digest_members Shape xs told
 
 digest_seen : (v : Digest) → IsProperDigest v → digest_in (digest_members v) ≡ Ok v
 digest_seen v is =
     part_seen algorithm_part v.algorithm _ _ tt (
-    part_seen (bytes_part (size_of v.algorithm)) v.bytes _ _ (size_within (size_of v.algorithm) (length v.bytes) is) refl)
+    part_seen (bytes_part (size_of v.algorithm)) v.bytes _ _ (sized_bytes (size_of v.algorithm) v.bytes is.0 is.1) refl)
 
 -- an array [alg, bytes] as a part with the fault of forms
 pub digest_part : Part NoMemory (in_array Shape digest_in) digest_item IsProperDigest

@@ -7,7 +7,7 @@ use Rattle.suit_commands.specs.declared.fault.SequenceFault.TheVariants.{Cbor, I
 use Rattle.suit_commands.specs.Sequences.{Sequence, sequence_in, sequence_by}
 use Rattle.suit_commands.specs.Law.{ByBytes, ExactlyOne, OneSpelling, SequencesAreProper, ProperAreSpelled}
 use Rattle.suit_commands.proofs.Fields.{memory_outside, index_outside}
-use Rattle.suit_commands.proofs.InBytes.{given_is, is_given}
+use Rattle.item_codec.proofs.Public.InBytes.{given_is, is_given}
 use Rattle.suit_commands.proofs.Levels.{none_left, one_more, level}
 
 pub by_bytes : ByBytes

@@ -2,7 +2,8 @@ use Rattle.std.proofs.Common.{◌≡◌, true, false, sym, ap, inl, ◌∙◌, a
 use Rattle.std.specs.Prelude.{Err}
 use Rattle.std.proofs.lemmas.Result.{err_from_is_err_and}
 use Rattle.cbor_core.specs.declared.item.Item.{out-Item}
-use Rattle.suit_commands.specs.Sequences.{sequence_in, null_by}
+use Rattle.cbor_core.specs.Views.{is_null}
+use Rattle.suit_commands.specs.Sequences.{sequence_in}
 use Rattle.suit_commands.proofs.Loops.{one_at, two_at, goes_on, odd_is, members_stop, members_end, each_stop, each_end, try_reads, try_stops}
 use Rattle.suit_commands.proofs.Steps.{no_level_left, bytes_answer, bytes_fault}
 use Rattle.suit_commands.proofs.reader.+reader.Goals as goal
@@ -49,21 +50,21 @@ read_each-returns t c = each_end (sequence_in c.args.inside) c.loop-item.sequenc
 pub read_alternatives-returns-in_err-alternatives : goal.read_alternatives-returns-in_err-alternatives
 read_alternatives-returns-in_err-alternatives t c =
     let p = err_from_is_err_and c.from_residual.result c.from_residual.ensures.1 in
-    let null : true ≡ null_by (out-Item c.in-Some.last.now) = sym c.if-is_null.true ∙ c.is_null.ensures in
+    let null : true ≡ is_null (out-Item c.in-Some.last.now) = sym c.if-is_null.true ∙ c.is_null.ensures in
     rw (p.1, p.2) (try_stops (sequence_in c.args.inside) c.args.members.now c.in-Some.first.now c.in-Some.last.now true c.in_err-alternatives.field-0.0 c.in-Some.ensures.cases.0 null c.in_err-alternatives.ensures)
 
 pub read_alternatives-returns-then-is_null : goal.read_alternatives-returns-then-is_null
 read_alternatives-returns-then-is_null t c =
-    let null : true ≡ null_by (out-Item c.in-Some.last.now) = sym c.if-is_null.true ∙ c.is_null.ensures in
+    let null : true ≡ is_null (out-Item c.in-Some.last.now) = sym c.if-is_null.true ∙ c.is_null.ensures in
     try_reads (sequence_in c.args.inside) c.args.members.now c.in-Some.first.now c.in-Some.last.now true c.in_ok-alternatives.alternatives c.in-Some.ensures.cases.0 null c.in_ok-alternatives.ensures
 
 pub read_alternatives-returns-in_err-alternatives-2 : goal.read_alternatives-returns-in_err-alternatives-2
 read_alternatives-returns-in_err-alternatives-2 t c =
     let p = err_from_is_err_and c.from_residual-in_err-alternatives-2.result c.from_residual-in_err-alternatives-2.ensures.1 in
-    let null : false ≡ null_by (out-Item c.in-Some.last.now) = sym c.if-is_null.false ∙ c.is_null.ensures in
+    let null : false ≡ is_null (out-Item c.in-Some.last.now) = sym c.if-is_null.false ∙ c.is_null.ensures in
     rw (p.1, p.2) (try_stops (sequence_in c.args.inside) c.args.members.now c.in-Some.first.now c.in-Some.last.now false c.in_err-alternatives-2.field-0.0 c.in-Some.ensures.cases.0 null c.in_err-alternatives-2.ensures)
 
 pub read_alternatives-returns : goal.read_alternatives-returns
 read_alternatives-returns t c =
-    let null : false ≡ null_by (out-Item c.in-Some.last.now) = sym c.if-is_null.false ∙ c.is_null.ensures in
+    let null : false ≡ is_null (out-Item c.in-Some.last.now) = sym c.if-is_null.false ∙ c.is_null.ensures in
     try_reads (sequence_in c.args.inside) c.args.members.now c.in-Some.first.now c.in-Some.last.now false c.in_ok-alternatives-2.alternatives c.in-Some.ensures.cases.0 null c.in_ok-alternatives-2.ensures

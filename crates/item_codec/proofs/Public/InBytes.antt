@@ -14,10 +14,12 @@ use Rattle.cbor_heads.specs.Reading.{Outcome}
 use Rattle.cbor_heads.specs.Place.{start}
 use Rattle.cbor_core.specs.Reading.{item_at}
 use Rattle.cbor_core.specs.Law.{IsFaultyWhole}
-use Rattle.cbor_core.specs.Spelling.{spelling, Spells, IsInRangeBy, HasRangesWithin}
-use Rattle.cbor_core.specs.Views.{bytes_by, bytes_of}
+use Rattle.cbor_core.specs.Spelling.{spelling, Spells, HasRanges}
+use Rattle.cbor_core.specs.Views.{bytes_of}
 use Rattle.cbor_core.proofs.Public.Views.{bytes_is}
-use Rattle.cbor_core.proofs.Public.Whole.{exactly_one_whole, reads, reads_whole, refuses}
+use Rattle.cbor_core.proofs.Public.ExactlyOne.{exactly_one_whole}
+use Rattle.cbor_core.proofs.Public.Ranges.{bytes_in_range}
+use Rattle.cbor_core.proofs.Public.Whole.{reads, reads_whole, refuses}
 use Rattle.cbor_fields.specs.Written.{IsSpelled}
 use Rattle.item_codec.specs.Answers.{and_then, or_fault, IsSettled}
 use Rattle.item_codec.specs.Part.{Part}
@@ -25,7 +27,7 @@ use Rattle.item_codec.specs.Whole.{BytesGive}
 use Rattle.item_codec.specs.Wrapped.{wrap, IsWrappable}
 use Rattle.item_codec.proofs.Public.Settled.{fault_settled, then_settled}
 use Rattle.item_codec.proofs.Public.Whole.{value_written}
-use Rattle.suit_commands.specs.Reading.{ended, read_to_end, item_or_fault, in_bytes}
+use Rattle.item_codec.specs.InBytes.{ended, read_to_end, item_or_fault, in_bytes}
 
 -- ---- the item or the fault
 
@@ -110,18 +112,14 @@ module _ {V E : Type 0} {none : E} {view : Item → Result V E} {item : V → It
 
 -- ---- byte strings that wrap
 
-ranges_by : (l : Item-F Item Pair) (bytes : List ℕ) → IsInRangeBy (HasRangesWithin 15) l → bytes_by l ≡ Some bytes → IsBytes bytes
-ranges_by (Item-F.Bytes b) bytes r e = let same : b ≡ bytes = cc in subst IsBytes same r.0
-ranges_by _ bytes r e = absurd cc
-
 module _ {V E : Type 0} {none : E} {read : List ℕ → Result V E} {item : V → Item} {P : V → Type 0} (part : BytesPart none read item P) (shape : E) (told : shape ≡ none → ⊥) where
   by_bytes : (x : Item) (v : V) → IsSpelled x → (o : Option (List ℕ)) → bytes_of x ≡ o → and_then read (or_fault shape o) ≡ Ok v → x ≡ wrap item v
   by_bytes x v s None at e = absurd cc
-  by_bytes x v s (Some bytes) at e = bytes_is x bytes at ∙ ap (λ (t : List ℕ). i.Bytes t) (part.fixes bytes v (ranges_by (out-Item x) bytes s.ranges at) e)
+  by_bytes x v s (Some bytes) at e = bytes_is x bytes at ∙ ap (λ (t : List ℕ). i.Bytes t) (part.fixes bytes v (bytes_in_range bytes (subst HasRanges (bytes_is x bytes at) s.ranges)) e)
 
   proper_bytes : (x : Item) (v : V) → IsSpelled x → (o : Option (List ℕ)) → bytes_of x ≡ o → and_then read (or_fault shape o) ≡ Ok v → P v
   proper_bytes x v s None at e = absurd cc
-  proper_bytes x v s (Some bytes) at e = part.proper bytes v (ranges_by (out-Item x) bytes s.ranges at) e
+  proper_bytes x v s (Some bytes) at e = part.proper bytes v (bytes_in_range bytes (subst HasRanges (bytes_is x bytes at) s.ranges)) e
 
   pub wrapping_part : Part none (λ x. and_then read (or_fault shape (bytes_of x))) (wrap item) P
   wrapping_part = record {
