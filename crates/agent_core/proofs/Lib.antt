@@ -2,3 +2,4 @@ pub mod OneReply
 pub mod Proper
 pub mod Sizes
 pub mod There
+pub mod Signing

@@ -1,4 +1,6 @@
 ghost use Rattle.std.specs.Prelude.{◌≡◌, IfOk};
+ghost use Rattle.cose_core.specs.Borrowed.{IsPartsOf};
+ghost use Rattle.cose_core.specs.declared.sign1.Sign1.{Sign1};
 ghost use Rattle.agent_core.specs.Answers.{Answers, AnswersContent, AnswersPayload, AnswersMessage, HasSizedToken, OneReply, refusal_frame};
 ghost use Rattle.agent_core.specs.Replies.{frame_of};
 
@@ -9,7 +11,7 @@ use crate::reply::Reply;
 use crate::response::respond;
 use base_types::{Octets, OrMemory};
 use component_store::Config;
-use cose_core::{CoseFault, Sign1};
+use cose_core::Signed;
 use std::alloc::Global;
 use std::marker::Model;
 use teep_messages::{Message, MessageFault};
@@ -61,26 +63,29 @@ impl Agent {
     }
 }
 
-// The reply to the bytes of a message.
+// The reply to the bytes of a message. Nothing of them is built before they are signed.
 fn answer_bytes(alloc: Global, anchors: &Anchors, bytes: &[u8]) -> Result<Reply, AgentFault>
     ensures { IfOk result (λ reply. Answers anchors.now (Event.Message bytes.now) (frame_of reply)) }
 {
-    match Sign1::read(alloc, bytes) {
+    match Signed::read(bytes) {
         Ok(envelope) => answer_envelope(alloc, anchors, &envelope),
-        Err(CoseFault::NoMemory) => Err(AgentFault::NoMemory),
         Err(_) => Ok(refuse(alloc, Refusal::NotCose)?),
     }
 }
 
-// The reply to a COSE_Sign1.
-fn answer_envelope(alloc: Global, anchors: &Anchors, envelope: &Sign1) -> Result<Reply, AgentFault>
-    ensures { IfOk result (λ reply. AnswersContent anchors.now envelope.now envelope.now.payload (frame_of reply)) }
+// The reply to a COSE_Sign1, by its parts.
+fn answer_envelope(
+    alloc: Global,
+    anchors: &Anchors,
+    envelope: &Signed<'_>,
+) -> Result<Reply, AgentFault>
+    ensures { (value : Sign1) → IsPartsOf envelope.now value → IfOk result (λ reply. AnswersContent anchors.now value value.payload (frame_of reply)) }
 {
-    let Some(payload) = &envelope.payload else {
+    let Some(payload) = envelope.payload else {
         return Ok(refuse(alloc, Refusal::NotCose)?);
     };
-    match anchors.verified(alloc, Role::Manager, envelope, payload.as_slice()) {
-        Ok(_) => answer_payload(alloc, payload.as_slice()),
+    match anchors.verified_signed(alloc, Role::Manager, envelope, payload) {
+        Ok(_) => answer_payload(alloc, payload),
         Err(SignFault::NotSigned) => Ok(refuse(alloc, Refusal::NotSigned)?),
         Err(SignFault::NoMemory) => Err(AgentFault::NoMemory),
     }

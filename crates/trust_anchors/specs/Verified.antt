@@ -20,10 +20,13 @@ Signs message signature key = HssValid key message signature
 abbrev pub FirstSigner : List (List ℕ) → List ℕ → List ℕ → ℕ → Type 0
 FirstSigner keys message signature at = FirstAt (λ key. ¬ (Signs message signature key)) (Signs message signature) keys at
 
--- The anchor at this place of the role is the first that signed the message: what is signed are its protected bytes and this payload
--- (RFC 9052, section 4.4).
+-- the anchor at this place of the role is the first whose signature of these protected bytes and this payload it is (RFC 9052, section 4.4)
+abbrev pub VerifiedBy : Anchors → Role → List ℕ → List ℕ → List ℕ → ℕ → Type 0
+VerifiedBy v r protected signature payload at = FirstSigner (keys_of r v) (spelling (signed_item protected payload)) signature at
+
+-- the same of a message
 abbrev pub Verified : Anchors → Role → Sign1 → List ℕ → ℕ → Type 0
-Verified v r message payload at = FirstSigner (keys_of r v) (spelling (signed_item message.protected payload)) message.signature at
+Verified v r message payload at = VerifiedBy v r message.protected message.signature payload at
 
 -- the answer is this anchor, unless memory ran out
 abbrev pub IsSigner : Result ℕ SignFault → ℕ → Type 0

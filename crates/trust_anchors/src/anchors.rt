@@ -8,7 +8,7 @@ use crate::signers::signer_over;
 use crate::writing::write_keys;
 use base_types::{ANCHORS_LIMIT, List, OrMemory};
 use cbor_core::Item;
-use cose_core::Sign1;
+use cose_core::{Sign1, Signed};
 use hss_verify::HssPublic;
 use std::alloc::Global;
 
@@ -45,7 +45,7 @@ fn read_roles(alloc: Global, managers: &[Item], authors: &[Item]) -> Result<Anch
 impl Anchors {
     ghost use Rattle.cose_core.specs.declared.sign1.Sign1.{Sign1};
     ghost use Rattle.trust_anchors.specs.Anchors.{AnchorsIs, RefusedAs, IsFound, IsRefused, keys_of, written_anchors};
-    ghost use Rattle.trust_anchors.specs.Verified.{Verified, IsSigner};
+    ghost use Rattle.trust_anchors.specs.Verified.{Verified, VerifiedBy, IsSigner};
 
     /// Reads anchors from an item: `[[key, ..], [key, ..]]`, the manager's keys and the author's, each
     /// a byte string that wraps a COSE_Key (RFC 9052, section 7) with an HSS key (RFC 8554, section
@@ -122,5 +122,22 @@ impl Anchors {
             payload,
             signature,
         )
+    }
+
+    /// The same of a message where it lies: nothing of it is copied, and no more memory is taken than 31
+    /// bytes.
+    pub fn verified_signed(
+        &self,
+        alloc: Global,
+        role: Role,
+        message: &Signed<'_>,
+        payload: &[u8],
+    ) -> Result<usize, SignFault>
+        ensures found { IfOk result (λ at. VerifiedBy self.now role message.now.protected.now message.now.signature.now payload.now at) }
+        ensures only { (at : ℕ) → VerifiedBy self.now role message.now.protected.now message.now.signature.now payload.now at → IsSigner result at }
+        ensures not_signed { IsErrOf result SignFault.NotSigned
+            → (at : ℕ) → VerifiedBy self.now role message.now.protected.now message.now.signature.now payload.now at → ⊥ }
+    {
+        signer_over(alloc, self.keys(role), message.protected, payload, message.signature)
     }
 }
