@@ -97,16 +97,17 @@ form_tagged v =
 
 -- ---- the headers
 
-wraps_map_not_empty : (headers : List Pair) → Spells (i.Map headers) [] → ⊥
-wraps_map_not_empty headers s =
-    let none : spelling (i.Map headers) ≡ [] = sym s.spelled in
-    let below : bytes_below [] [] ≡ true = subst (λ (t : List ℕ). bytes_below [] t ≡ true) none (nothing_below (i.Map headers)) in
+-- no item is spelled by no bytes
+pub not_empty : (x : Item) → Spells x [] → ⊥
+not_empty x s =
+    let none : spelling x ≡ [] = sym s.spelled in
+    let below : bytes_below [] [] ≡ true = subst (λ (t : List ℕ). bytes_below [] t ≡ true) none (nothing_below x) in
     cc
 
 pub wraps_one : (bytes : List ℕ) (g h : List Pair) → Wraps bytes g → Wraps bytes h → g ≡ h
 wraps_one bytes g h (inl a) (inl b) = a.1 ∙ sym b.1
-wraps_one bytes g h (inl a) (inr t) = absurd (wraps_map_not_empty h (subst (λ (l : List ℕ). Spells (i.Map h) l) a.0 t))
-wraps_one bytes g h (inr s) (inl b) = absurd (wraps_map_not_empty g (subst (λ (l : List ℕ). Spells (i.Map g) l) b.0 s))
+wraps_one bytes g h (inl a) (inr t) = absurd (not_empty (i.Map h) (subst (λ (l : List ℕ). Spells (i.Map h) l) a.0 t))
+wraps_one bytes g h (inr s) (inl b) = absurd (not_empty (i.Map g) (subst (λ (l : List ℕ). Spells (i.Map g) l) b.0 s))
 wraps_one bytes g h (inr s) (inr t) = same_map g h (one_for_one.one_item (i.Map g) (i.Map h) bytes s t)
 
 -- ---- the form of bytes and the item that they spell

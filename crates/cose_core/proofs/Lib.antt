@@ -4,4 +4,7 @@ pub mod Sign1s
 pub mod Keys
 pub mod Written
 pub mod There
+pub mod Shapes
+pub mod Headings
+pub mod Borrowings
 pub mod Public

@@ -5,7 +5,6 @@ use Rattle.cbor_core.specs.declared.item.Pair.{Pair}
 use Rattle.cbor_core.specs.declared.item.Item.TheOpen.{Item-F}
 use Rattle.cbor_core.specs.declared.item.Item.TheViews.{roll-Item, roll-out-Item}
 use Rattle.cbor_core.specs.declared.item.Item.TheVariants as i
-use Rattle.cbor_core.proofs.Public.Views.{by_layer}
 use Rattle.cose_core.specs.Sign1.{payload_item}
 use Rattle.cose_core.specs.Reading.{payload_by, payload_of}
 

@@ -1,15 +1,11 @@
 -- Pieces that are written one behind the other spell the item that they are parts of.
-use Rattle.std.proofs.Common.{rules, ◌≡◌, ℕ, zero, suc, ◌<◌, ◌^◌, List, [], ◌∷◌, ◌++◌, length, Option, Some, None, codes, refl, sym, ap, subst, arith}
+use Rattle.std.proofs.Common.{rules, ◌≡◌, ℕ, ◌<◌, ◌^◌, List, [], ◌∷◌, ◌++◌, length, Option, Some, None, codes, sym, ap, subst, arith}
 use Rattle.std.proofs.lemmas.List.{append-nil, append_assoc}
-use Rattle.std.specs.Str.{IsUtf8}
-use Rattle.std.specs.List.{AllByRecursion}
 use Rattle.std.proofs.lemmas.Str.{IsUtf8-from_ascii}
 use Rattle.base_types.specs.Bytes.{IsBytes}
 use Rattle.cbor_heads.specs.Head.{head}
-use Rattle.cbor_core.specs.declared.item.Item.{Item}
 use Rattle.cbor_core.specs.declared.item.Item.TheVariants as i
-use Rattle.cbor_core.specs.declared.item.Pair.{Pair}
-use Rattle.cbor_core.specs.Spelling.{spelling, IsProper, HasRanges, HasRangesWithin, Spells}
+use Rattle.cbor_core.specs.Spelling.{spelling, IsProper, HasRangesWithin, Spells}
 use Rattle.cbor_core.proofs.Public.KeyOrder.{layers}
 use Rattle.cbor_core.proofs.Public.Spell.{spelling_Bytes, spelling_Text, spelling_Array, spelling_Tag, spelling_Null}
 use Rattle.cbor_core.proofs.Public.Parts.{parts_are_proper}

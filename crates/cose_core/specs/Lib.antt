@@ -3,5 +3,6 @@ pub mod Headers
 pub mod Signed
 pub mod Sign1
 pub mod Reading
+pub mod Borrowed
 pub mod Key
 pub mod Law

@@ -1,4 +1,4 @@
-use crate::{CoseFault, CoseKey, KeyFault, Sign1, exactly_one, signed_bytes};
+use crate::{CoseFault, CoseKey, KeyFault, Sign1, Signed, exactly_one, signed_bytes};
 use base_types::{List, Octets};
 use cbor_core::{Fault, Item, Pair, Why};
 use std::alloc::Global;
@@ -31,7 +31,11 @@ fn signs_these_bytes(rt: HostRuntime) -> Result<(), Fail> {
     Ok(())
 }
 
-/// A refusal for each rule, and for each pair of rules the one that comes first.
+fn are_refused(alloc: Global, bytes: &[u8], fault: CoseFault) -> bool {
+    Sign1::read(alloc, bytes) == Err(fault) && Signed::read(bytes) == Err(fault)
+}
+
+/// A refusal for each rule, and for each pair of rules the one that comes first, by both readers.
 #[test]
 fn refuses_in_order(rt: HostRuntime) {
     let alloc = rt.alloc();
@@ -102,8 +106,7 @@ fn refuses_in_order(rt: HostRuntime) {
         ),
     ];
     for (bytes, fault) in rows {
-        let read = Sign1::read(alloc, bytes);
-        assert!(rt; read == Err(fault), "{fault}");
+        assert!(rt; are_refused(alloc, bytes, fault), "{fault}");
     }
 }
 
@@ -135,17 +138,70 @@ fn reads_and_writes_the_tagged_form(rt: HostRuntime) -> Result<(), Fail> {
     Ok(())
 }
 
-/// A payload that is elsewhere is null, and an identifier that is no byte string is none.
+// Whether what both readers found is the same.
+fn is_same(value: &Sign1, signed: Signed<'_>) -> bool {
+    let payload = match &value.payload {
+        Some(payload) => Some(payload.as_slice()),
+        None => None,
+    };
+    value.protected.as_slice() == signed.protected
+        && value.kid() == signed.kid
+        && payload == signed.payload
+        && value.signature.as_slice() == signed.signature
+}
+
+/// Messages with the tag and without, by both readers: their key identifier, payload and signature.
 #[test]
-fn reads_a_detached_payload(rt: HostRuntime) -> Result<(), Fail> {
+fn finds_the_parts(rt: HostRuntime) -> Result<(), Fail> {
     let alloc = rt.alloc();
-    // [h'a101382d', {4: "d"}, null, h'']
-    let bytes: [u8; 12] = [
-        0x84, 0x44, 0xa1, 0x01, 0x38, 0x2d, 0xa1, 0x04, 0x61, 0x64, 0xf6, 0x40,
+    let rows: [(&[u8], Option<&[u8]>, Option<&[u8]>, &[u8]); 4] = [
+        // 18([h'a101382d', {4: h'64'}, h'0506', h'aabb'])
+        (
+            &[
+                0xd2, 0x84, 0x44, 0xa1, 0x01, 0x38, 0x2d, 0xa1, 0x04, 0x41, 0x64, 0x42, 0x05, 0x06,
+                0x42, 0xaa, 0xbb,
+            ],
+            Some(&[0x64]),
+            Some(&[0x05, 0x06]),
+            &[0xaa, 0xbb],
+        ),
+        // [h'a101382d', {4: "d"}, null, h'']
+        (
+            &[
+                0x84, 0x44, 0xa1, 0x01, 0x38, 0x2d, 0xa1, 0x04, 0x61, 0x64, 0xf6, 0x40,
+            ],
+            None,
+            None,
+            &[],
+        ),
+        // [h'a101382d', {}, h'', h'aa']
+        (
+            &[0x84, 0x44, 0xa1, 0x01, 0x38, 0x2d, 0xa0, 0x40, 0x41, 0xaa],
+            None,
+            Some(&[]),
+            &[0xaa],
+        ),
+        // [h'a101382d', {1: -46, 4: h'6465', 5: null}, h'05', h'aa']
+        (
+            &[
+                0x84, 0x44, 0xa1, 0x01, 0x38, 0x2d, 0xa3, 0x01, 0x38, 0x2d, 0x04, 0x42, 0x64, 0x65,
+                0x05, 0xf6, 0x41, 0x05, 0x41, 0xaa,
+            ],
+            Some(&[0x64, 0x65]),
+            Some(&[0x05]),
+            &[0xaa],
+        ),
     ];
-    let value = Sign1::read(alloc, &bytes)?;
-    assert!(rt; value.payload == None);
-    assert!(rt; value.kid() == None);
+    for (bytes, kid, payload, signature) in rows {
+        let signed = Signed {
+            protected: &PROTECTED,
+            kid,
+            payload,
+            signature,
+        };
+        assert!(rt; Signed::read(bytes) == Ok(signed));
+        assert!(rt; is_same(&Sign1::read(alloc, bytes)?, signed));
+    }
     Ok(())
 }
 

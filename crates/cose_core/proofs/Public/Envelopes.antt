@@ -1,5 +1,5 @@
 -- Bytes are one COSE_Sign1, or have one refusal, and never both.
-use Rattle.std.proofs.Common.{◌≡◌, ◌⊎◌, ℕ, suc, List, Result, Ok, Err, Option, Some, None, sym, ap, subst, inl, inr}
+use Rattle.std.proofs.Common.{◌≡◌, ◌⊎◌, ℕ, suc, List, Result, Ok, Err, Option, Some, None, sym, ap, subst, ◌∙◌, inl, inr}
 use Rattle.std.specs.Prelude.{IfSome}
 use Rattle.base_types.specs.Bytes.{IsBytes}
 use Rattle.cbor_core.specs.declared.item.Item.{Item}
@@ -78,6 +78,13 @@ pub envelope_or_refused : OneEnvelope
 envelope_or_refused bytes are = elim (exactly_one_whole bytes are) [
   | inl one ↦ (let a = answered one.item one.spelled.ranges in by_item bytes one.item a.result one.spelled one.no_fault a.answers a.not_memory)
   | inr fails ↦ by_fault bytes fails
+]
+
+-- bytes have one refusal at most
+pub one_refusal : (bytes : List ℕ) → IsBytes bytes → (d e : CoseFault) → RefusedAs bytes d → RefusedAs bytes e → d ≡ e
+one_refusal bytes are d e h refused = elim (envelope_or_refused bytes are) [
+  | inl one ↦ absurd (one.no_refusal d h)
+  | inr fails ↦ fails.alone d h ∙ sym (fails.alone e refused)
 ]
 
 -- ---- the payload

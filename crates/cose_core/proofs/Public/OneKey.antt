@@ -1,5 +1,5 @@
 -- Bytes are one COSE_Key, or have one refusal, and never both.
-use Rattle.std.proofs.Common.{◌≡◌, ◌⊎◌, ℕ, List, sym, ◌∙◌, inl, inr}
+use Rattle.std.proofs.Common.{◌≡◌, ◌⊎◌, ℕ, List, inl, inr}
 use Rattle.std.specs.Prelude.{Result, Ok, Err}
 use Rattle.base_types.specs.Bytes.{IsBytes}
 use Rattle.cbor_heads.specs.declared.fault.Fault.{Fault}

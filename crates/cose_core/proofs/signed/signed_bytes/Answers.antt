@@ -1,4 +1,4 @@
-use Rattle.std.proofs.Common.{Result, Ok, Err, List, ℕ, ◌<◌, ◌^◌, ◌≡◌, length, sym, ◌∙◌, arith}
+use Rattle.std.proofs.Common.{Result, Ok, Err, List, ℕ, ◌<◌, ◌^◌, ◌≡◌, length, ◌∙◌, arith}
 use Rattle.std.specs.Prelude.{IfOk}
 use Rattle.base_types.specs.Bytes.{IsBytes}
 use Rattle.base_types.specs.declared.memory.NoMemory.{NoMemory}
