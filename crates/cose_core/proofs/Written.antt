@@ -35,8 +35,13 @@ pub signed_spelled : (protected payload bytes : List ℕ) → IsBytes protected 
     → bytes ≡ spelling (signed_item protected payload) → Spells (signed_item protected payload) bytes
 signed_spelled protected payload bytes are len payload_are payload_len is = record {
   proper = signed_proper protected payload;
-  ranges = array_ranges 15 (i.Text (codes "Signature1") ∷ i.Bytes protected ∷ i.Bytes [] ∷ i.Bytes payload ∷ [])
-      (text_ranges 15 (codes "Signature1") (IsUtf8-from_ascii (codes "Signature1") (search rules)) (omega arith), (string_ranges 15 protected are len, (string_ranges 15 [] (λ k. omega arith) (omega arith), (string_ranges 15 payload payload_are payload_len, tt)))) (omega arith);
+  ranges = array_ranges 15 (i.Text (codes "Signature1") ∷ i.Bytes protected ∷ i.Bytes [] ∷ i.Bytes payload ∷ []) (
+    text_ranges 15 (codes "Signature1") (IsUtf8-from_ascii (codes "Signature1") (search rules)) (omega arith),
+    (
+      string_ranges 15 protected are len,
+      (string_ranges 15 [] (λ k. omega arith) (omega arith), (string_ranges 15 payload payload_are payload_len, tt)),
+    ),
+  ) (omega arith);
   spelled = is;
 }
 
