@@ -5,6 +5,7 @@ use Rattle.cbor_core.specs.declared.fault.CborFault.TheVariants as cbor
 use Rattle.cose_core.specs.declared.fault.CoseFault.{CoseFault}
 use Rattle.cose_core.specs.declared.fault.CoseFault.TheVariants as cose
 
+-- the fault of this crate that the codec's is told as
 abbrev pub IsNotCose : CborFault → CoseFault → Type 0
 IsNotCose (cbor.Bad f) e = e ≡ cose.NotCose f
 IsNotCose cbor.NoMemory e = e ≡ cose.NoMemory

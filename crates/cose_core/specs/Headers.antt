@@ -28,6 +28,7 @@ pub record HasGoodHeaders (protected : List ℕ) : Type 0 where
   pub algorithm : IsHssLms headers
   pub uncritical : IsUncritical headers
 
+-- the bytes of an item that is there, and is a byte string
 abbrev pub bytes_if : Option Item → Option (List ℕ)
 bytes_if None = None
 bytes_if (Some x) = bytes_of x

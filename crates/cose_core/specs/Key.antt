@@ -15,6 +15,7 @@ use Rattle.cose_core.specs.declared.labels.TheConstants.{ALG_HSS_LMS, KEY_KTY, K
 
 -- ---- what is read
 
+-- the key type, by its layer
 abbrev pub is_kty_by : Item-F Item Pair → Bool
 is_kty_by (Item-F.Unsigned n) = n == KTY_HSS_LMS
 is_kty_by _ = false
@@ -24,6 +25,7 @@ abbrev pub is_kty : Option Item → Bool
 is_kty None = false
 is_kty (Some x) = is_kty_by (out-Item x)
 
+-- the algorithm, by its layer
 abbrev pub is_alg_by : Item-F Item Pair → Bool
 is_alg_by (Item-F.Negative n) = n == ALG_HSS_LMS
 is_alg_by _ = false
@@ -57,6 +59,7 @@ KeyRefusedAs bytes fault = HasRefusal (λ f. faults.NotCbor f) key_of bytes faul
 
 -- ---- what is written
 
+-- the pair of a key identifier, where there is one
 abbrev pub kid_pairs : Option (List ℕ) → List Pair
 kid_pairs None = []
 kid_pairs (Some kid) = record { key = i.Unsigned KEY_KID; value = i.Bytes kid } ∷ []

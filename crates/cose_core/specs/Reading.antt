@@ -16,6 +16,7 @@ payload_by (Item-F.Bytes bytes) = Some (Some bytes)
 payload_by Item-F.Null = Some None
 payload_by _ = None
 
+-- the payload of an item: a byte string, or null where it is not here
 abbrev pub payload_of : Item → Option (Option (List ℕ))
 payload_of x = payload_by (out-Item x)
 
@@ -31,6 +32,7 @@ abbrev pub members_by : List Item → Option Sign1
 members_by (p ∷ u ∷ c ∷ s ∷ []) = four_by p u c s
 members_by _ = None
 
+-- an item without the tag, by its layer
 abbrev pub content_by : Item → Item-F Item Pair → Item
 content_by x (Item-F.Tag n y) = if n == SIGN1_TAG then y else x
 content_by x _ = x
@@ -39,6 +41,7 @@ content_by x _ = x
 abbrev pub content_of : Item → Item
 content_of x = content_by x (out-Item x)
 
+-- what stands in an array, by its layer
 abbrev pub array_members : Item-F Item Pair → Option Sign1
 array_members (Item-F.Array members) = members_by members
 array_members _ = None
@@ -55,12 +58,14 @@ pub record IsWrongAlg (bytes : List ℕ) : Type 0 where
   pub wrapped : Wraps bytes headers
   pub wrong : ¬ (IsHssLms headers)
 
+-- all else is good, and a header is critical
 pub record IsCritical (bytes : List ℕ) : Type 0 where
   pub headers : List Pair
   pub wrapped : Wraps bytes headers
   pub algorithm : IsHssLms headers
   pub critical : ¬ (IsUncritical headers)
 
+-- what a look at the protected headers says
 abbrev pub CheckedAs : {T : Type 0} → List ℕ → Result T CoseFault → Type 0
 CheckedAs bytes (Ok _) = HasGoodHeaders bytes
 CheckedAs bytes (Err (faults.NotCose f)) = ⊥

@@ -20,6 +20,7 @@ payload_item (Some bytes) = i.Bytes bytes
 abbrev pub untagged : Sign1 → Item
 untagged v = i.Array (i.Bytes v.protected ∷ i.Map v.unprotected ∷ payload_item v.payload ∷ i.Bytes v.signature ∷ [])
 
+-- the same with the tag (RFC 9052, section 4.2)
 abbrev pub tagged : Sign1 → Item
 tagged v = i.Tag SIGN1_TAG (untagged v)
 

@@ -138,6 +138,12 @@ impl Anchors {
         ensures not_signed { IsErrOf result SignFault.NotSigned
             → (at : ℕ) → VerifiedBy self.now role message.now.protected.now message.now.signature.now payload.now at → ⊥ }
     {
-        signer_over(alloc, self.keys(role), message.protected, payload, message.signature)
+        signer_over(
+            alloc,
+            self.keys(role),
+            message.protected,
+            payload,
+            message.signature,
+        )
     }
 }
