@@ -1,4 +1,4 @@
-ghost use Rattle.std.specs.Prelude.{IfOk};
+ghost use Rattle.std.specs.Prelude.{◌≡◌, IfOk, length};
 ghost use Rattle.teep_messages.specs.Proper.{IsProperMessage};
 
 use crate::{Message, MessageFault, Options, one_spelling, proper_messages};
@@ -247,7 +247,8 @@ fn messages_are_written_as_they_were_read(rt: HostRuntime) -> Result<(), Fail> {
 }
 
 // The Update [3, {10: [manifest], 11: msg, 20: token, 24: null}], made by hand.
-fn made(alloc: Global, manifest: &[u8], msg: &str, token: &[u8; 8]) -> OrMemory<Message>
+fn made(alloc: Global, manifest: &[u8], msg: &str, token: &[u8]) -> OrMemory<Message>
+    requires { length token.now ≡ 8 }
     ensures { IfOk result (λ message. IsProperMessage message) }
 {
     let mut manifests = List::new(alloc);

@@ -1,4 +1,5 @@
 use Rattle.std.proofs.Common.{◌≡◌, ℕ, List, [], ◌∷◌, ◌++◌, length, Some, refl, sym, ap, subst, ◌∙◌, arith}
+use Rattle.base_types.specs.Bytes.{IsBytes}
 use Rattle.cbor_core.specs.declared.item.Item.{Item}
 use Rattle.cbor_core.specs.declared.item.Item.TheVariants as i
 use Rattle.cbor_core.specs.declared.item.Pair.{Pair}
@@ -35,22 +36,22 @@ option_pairs_are manifests msg token = pairs (array bytes manifests) (text msg) 
 item_proper : (manifest msg token : List ℕ) → IsProper (i.Array (i.Unsigned 3 ∷ i.Map (labelled 10 (i.Array (i.Bytes manifest ∷ [])) ∷ labelled 11 (i.Text msg) ∷ labelled 20 (i.Bytes token) ∷ unknown) ∷ []))
 item_proper manifest msg token = grind (arith, layers)
 
-options_proper : (manifests : List (List ℕ)) (msg token : List ℕ) → length token ≡ 8 → AreProperOptions (filled no_options manifests msg token unknown)
-options_proper manifests msg token eight = record {
+options_proper : (manifests : List (List ℕ)) (msg token : List ℕ) → IsBytes token → length token ≡ 8 → AreProperOptions (filled no_options manifests msg token unknown)
+options_proper manifests msg token are eight = record {
   challenge_size = tt;
-  token_size = (omega arith, omega arith);
+  token_size = (are, omega arith, omega arith);
   reported = tt;
   requested = tt;
   unneeded = tt;
   other = (rw i.outs-Unsigned refl, tt);
 }
 
-message_proper : (v : Options) (manifests : List (List ℕ)) (manifest msg token : List ℕ) (other : List Pair) → v ≡ no_options → manifests ≡ manifest ∷ [] → other ≡ unknown → length token ≡ 8
+message_proper : (v : Options) (manifests : List (List ℕ)) (manifest msg token : List ℕ) (other : List Pair) → v ≡ no_options → manifests ≡ manifest ∷ [] → other ≡ unknown → IsBytes token → length token ≡ 8
     → IsProperMessage (Update (filled v manifests msg token other))
-message_proper v manifests manifest msg token other none one kept eight =
+message_proper v manifests manifest msg token other none one kept are eight =
     let item : IsProper (i.Array (i.Unsigned 3 ∷ i.Map (option_pairs (filled no_options (manifest ∷ []) msg token unknown)) ∷ [])) =
     subst (λ (ps : List Pair). IsProper (i.Array (i.Unsigned 3 ∷ i.Map ps ∷ []))) (sym (option_pairs_are (manifest ∷ []) msg token)) (item_proper manifest msg token) in
-    let made : IsProperMessage (Update (filled no_options (manifest ∷ []) msg token unknown)) = record { fields = options_proper (manifest ∷ []) msg token eight; item = item } in
+    let made : IsProperMessage (Update (filled no_options (manifest ∷ []) msg token unknown)) = record { fields = options_proper (manifest ∷ []) msg token are eight; item = item } in
     let with_other : IsProperMessage (Update (filled no_options (manifest ∷ []) msg token other)) = subst (λ (ps : List Pair). IsProperMessage (Update (filled no_options (manifest ∷ []) msg token ps))) (sym kept) made in
     let with_manifests : IsProperMessage (Update (filled no_options manifests msg token other)) = subst (λ (ms : List (List ℕ)). IsProperMessage (Update (filled no_options ms msg token other))) (sym one) with_other in
     subst (λ (u : Options). IsProperMessage (Update (filled u manifests msg token other))) (sym none) with_manifests
@@ -59,4 +60,5 @@ pub returns : goal.returns
 returns c =
     let one = c.in_ok-push.ensures.ok ∙ ap (λ (xs : List (List ℕ)). xs ++ c.in_ok-from_slice.field-0 ∷ []) c.new-manifests.ensures in
     let kept = c.in_ok-push-2.ensures.ok ∙ ap (λ (v : Options). v.other ++ unknown) c.new-options.ensures in
-    message_proper c.new-options.result c.push.new.self c.in_ok-from_slice.field-0 c.in_ok-from_str.field-0 c.in_ok-from_slice-2.field-0 c.push-2.new.self c.new-options.ensures one kept (grind arith)
+    message_proper c.new-options.result c.push.new.self c.in_ok-from_slice.field-0 c.in_ok-from_str.field-0 c.in_ok-from_slice-2.field-0 c.push-2.new.self c.new-options.ensures one kept
+    (subst IsBytes (sym c.in_ok-from_slice-2.ensures) (λ k. omega (arith, c.type_inv.token k))) (ap length c.in_ok-from_slice-2.ensures ∙ c.requires)
