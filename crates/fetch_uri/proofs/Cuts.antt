@@ -1,5 +1,6 @@
 -- Where a text is cut: at its first colon, and at the first slash behind it.
-use Rattle.std.proofs.Common.{◌≡◌, ◌≢◌, ℕ, suc, ◌+◌, ◌<◌, ◌≤◌, true, false, List, [], ◌∷◌, ◌++◌, length, get_or, take, drop, Option, MatchOption, codes, decimal, refl, sym, ap, ◌∙◌, arith, append_assoc, length-append, take-append-drop, length-take-le, add-zero, Bor}
+use Rattle.std.proofs.Common.{◌≡◌, ◌≢◌, ℕ, suc, ◌+◌, ◌<◌, ◌≤◌, true, false, List, [], ◌∷◌, ◌++◌, length, get_or, take, drop, Option, MatchOption, codes, decimal, Bor}
+use Rattle.std.proofs.Common.{refl, sym, ap, ◌∙◌, arith, append_assoc, length-append, take-append-drop, length-take-le, add-zero}
 use Rattle.std.specs.List.{AllPass}
 use Rattle.std.proofs.lemmas.Fmt.{decimal_is_IsNumeral}
 use Rattle.std.proofs.lemmas.Str.Parse.{digit_at}
@@ -8,12 +9,14 @@ use Rattle.std.proofs.lemmas.List.{append_cancel_left, get_or-append-add, get_or
 use Rattle.fetch_uri.specs.Address.{is_host_byte, UriIs}
 use Rattle.fetch_uri.specs.Parts.{LacksByte}
 
+-- no colon stands in a host
 pub host_lacks_colon : (host : List ℕ) → AllPass is_host_byte host → LacksByte 58 host
 host_lacks_colon host all i below colon =
     let e : is_host_byte (get_or host i 0) ≡ true = all i 0 below in
     let impossible : false ≡ true = rw colon at e in
     cc
 
+-- no slash stands in the digits of a port
 pub digits_lack_slash : (port : ℕ) → port ≤ 65535 → LacksByte 47 (decimal port)
 digits_lack_slash port most i below slash =
     let range = digit_at (decimal port) i (decimal_is_IsNumeral port (omega arith)).0.1 below in
@@ -42,9 +45,7 @@ pub cut_at : (text : List ℕ) (k : ℕ) → k < length text → get_or text k 0
     → (text ≡ take k text ++ drop k text) × (get_or (drop k text) 0 0 ≡ 47) × LacksByte 47 (take k text)
 cut_at text k below at before =
     let size : length (take k text) ≡ k = length-take-le k text (omega arith) in
-    let lacks : LacksByte 47 (take k text) = λ i short e.
-    let early : i < k = omega arith in
-    before i early (sym (get_or-take k text i 0 early) ∙ e) in
+    let lacks : LacksByte 47 (take k text) = λ i short e. (let early : i < k = omega arith in before i early (sym (get_or-take k text i 0 early) ∙ e)) in
     (sym (take-append-drop k text), rw (get_or-drop, add-zero) at, lacks)
 
 -- what stands in front of the first colon behind the scheme, and behind it

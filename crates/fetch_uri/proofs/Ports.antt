@@ -1,5 +1,5 @@
 -- The digits of a port, and what `parse` makes of them.
-use Rattle.std.proofs.Common.{◌≡◌, ℕ, zero, suc, ◌^◌, ◌<◌, ◌≤◌, List, length, get_or, Result, Ok, Err, Some, IfSome, decimal, sym, ap, ◌∙◌, arith}
+use Rattle.std.proofs.Common.{◌≡◌, ℕ, zero, suc, ◌^◌, ◌<◌, ◌≤◌, List, get_or, Result, Ok, Err, Some, IfSome, decimal, sym, ap, ◌∙◌, arith}
 use Rattle.std.specs.Result.{result_ok}
 use Rattle.std.specs.Str.Parse.{ParsesUnsigned, digits_value}
 use Rattle.std.proofs.lemmas.Fmt.{decimal_is_IsNumeral, decimal_digit, decimal-digits_value, first_decimal, parse-decimal}
@@ -10,6 +10,7 @@ above_zero : (digits : List ℕ) (port : ℕ) → digits ≡ decimal port → 49
 above_zero digits zero is first = absurd (omega (arith, ap (λ (l : List ℕ). get_or l 0 0) (is ∙ decimal_digit 0 (omega arith))))
 above_zero digits (suc n) is first = omega arith
 
+-- where a digit from 1 to 9 leads, what is parsed is the port that the digits write
 pub port_found : {E : Type 0} (digits : List ℕ) (r : Result ℕ E) → ParsesUnsigned 16 10 digits r → 49 ≤ get_or digits 0 0
     → IfSome (result_ok r) (λ port. (digits ≡ decimal port) × (1 ≤ port))
 port_found {E} digits (Err e) h first = tt
@@ -20,6 +21,7 @@ port_found {E} digits (Ok port) h first =
     let is : digits ≡ decimal port = sym writes ∙ ap decimal (sym plain.1) in
     (is, above_zero digits port is first)
 
+-- the digits of a port are parsed as this port
 pub port_only : {E : Type 0} (digits : List ℕ) (r : Result ℕ E) (port : ℕ) → ParsesUnsigned 16 10 digits r → port ≤ 65535 → digits ≡ decimal port → result_ok r ≡ Some port
 port_only digits r port h most is = ap result_ok (parse-decimal 16 port digits r (omega arith) (omega arith) is h)
 

@@ -13,7 +13,7 @@ pub fn behind_scheme(text: &str) -> Option<&str>
 
 /// What stands in front of the first slash, and the text from it on.
 pub fn split_path(text: &str) -> Option<(&str, &str)>
-    ensures parts { MatchOption result (LacksByte 47 text.now) (λ x. (text.now ≡ x.0.now ++ x.1.now) × (slice_index x.1.now 0 ≡ 47) × LacksByte 47 x.0.now) }
+    ensures { MatchOption result (LacksByte 47 text.now) (λ x. (text.now ≡ x.0.now ++ x.1.now) × (slice_index x.1.now 0 ≡ 47) × LacksByte 47 x.0.now) }
 {
     let slash = text.find('/')?;
     Some(text.split_at(slash))
