@@ -159,21 +159,23 @@ def memory():
     """What frames cost before a key has signed them: their own size, and what an empty run costs."""
     with tempfile.TemporaryDirectory() as where:
         subprocess.run([sys.executable, os.path.join(hss.TOP, "checks/device.py"), where], check=True)
-        base = held(b"", where)[0]
+        base = held(b"\x03" + hss.u(0, 4), where)[0]
         for name, body in greatest_frames():
             most, out = held(b"\x01" + hss.u(len(body), 4) + body, where)
             print(f"{name}, {len(body)} bytes: {(most - base) / 1024 - len(body) / 2**20:.2f} MiB beside the frame, answered {out.hex()}")
 
 
 def held(given, where):
-    """The most memory that a run held, in KiB, and what it sent."""
-    with tempfile.TemporaryFile() as source, tempfile.TemporaryFile() as sink:
-        source.write(given)
-        source.seek(0)
-        child = subprocess.Popen([AGENT, "run"], stdin=source, stdout=sink, cwd=where)
-        _, child.returncode, used = os.wait4(child.pid, 0)
-        sink.seek(0)
-        return used.ru_maxrss, sink.read()
+    """The most memory that the agent held up to its answer, in KiB, and the answer."""
+    child = subprocess.Popen([AGENT, "run"], stdin=subprocess.PIPE, stdout=subprocess.PIPE, cwd=where)
+    child.stdin.write(given)
+    child.stdin.flush()
+    answer = child.stdout.read(6)
+    with open(f"/proc/{child.pid}/status") as status:
+        most = next(int(line.split()[1]) for line in status if line.startswith("VmHWM"))
+    child.stdin.close()
+    child.wait()
+    return most, answer
 
 
 if __name__ == "__main__":
