@@ -1,0 +1,4 @@
+pub mod Each
+pub mod Wrapper
+pub mod Manifests
+pub mod Envelopes

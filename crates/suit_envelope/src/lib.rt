@@ -1,0 +1,18 @@
+//! SUIT envelopes and manifests (draft-ietf-suit-manifest) as data: read from bytes, and written to
+//! bytes.
+//!
+//! An envelope has the digest of its manifest, the blocks that sign it, the manifest and the payloads
+//! that travel with it. A manifest names its components, and its command sequences say what is done to
+//! them.
+#![tactic(auto)]
+
+mod envelope;
+mod fault;
+mod labels;
+mod manifest;
+mod read_manifest;
+mod wrapper;
+
+pub use envelope::{Attached, Envelope};
+pub use fault::EnvelopeFault;
+pub use manifest::Manifest;
