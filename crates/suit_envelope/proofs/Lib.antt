@@ -1,2 +1,4 @@
 mod Each
+mod Settled
+mod Parting
 pub mod Public

@@ -46,10 +46,14 @@ abbrev pub attached_of : List Pair → List Attached
 attached_of [] = []
 attached_of (p ∷ ps) = before (attached_in p) (attached_of ps)
 
--- there is none
-abbrev pub is_none : {A : Type 0} → Option A → Bool
-is_none None = true
-is_none (Some a) = false
+-- a pair attaches a payload, by the layers of key and value
+abbrev pub is_attached_by : Item-F Item Pair → Item-F Item Pair → Bool
+is_attached_by (Item-F.Text name) (Item-F.Bytes bytes) = is_marked name
+is_attached_by _ _ = false
+
+-- a pair attaches a payload
+abbrev pub is_attached : Pair → Bool
+is_attached p = is_attached_by (out-Item p.key) (out-Item p.value)
 
 -- the labels that are read
 abbrev pub labels : List ℕ
@@ -57,7 +61,7 @@ labels = 2 ∷ 3 ∷ []
 
 -- a pair is kept that has none of the labels and attaches no payload
 abbrev pub is_kept : Pair → Bool
-is_kept p = is_other labels p && is_none (attached_in p)
+is_kept p = is_other labels p && not (is_attached p)
 
 -- the pairs that are kept, in their order
 abbrev pub kept_of : List Pair → List Pair

@@ -2,3 +2,4 @@ pub mod Each
 pub mod Wrapper
 pub mod Manifests
 pub mod Envelopes
+pub mod Law

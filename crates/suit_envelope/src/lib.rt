@@ -9,10 +9,13 @@
 mod envelope;
 mod fault;
 mod labels;
+mod laws;
 mod manifest;
+mod read;
 mod read_manifest;
 mod wrapper;
 
 pub use envelope::{Attached, Envelope};
 pub use fault::EnvelopeFault;
+pub use laws::exactly_one;
 pub use manifest::Manifest;
