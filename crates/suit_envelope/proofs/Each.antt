@@ -7,7 +7,7 @@ use Rattle.cbor_core.specs.declared.item.Item.{Item}
 use Rattle.item_codec.specs.Answers.{and_then, mapped, Answers}
 use Rattle.suit_envelope.specs.Each.{each_read}
 
-one_at : {A : Type 0} (xs : List A) (k : ℕ) (x d : A) → k < length xs → x ≡ get_or xs k d → drop k xs ≡ x ∷ drop (k + 1) xs
+pub one_at : {A : Type 0} (xs : List A) (k : ℕ) (x d : A) → k < length xs → x ≡ get_or xs k d → drop k xs ≡ x ∷ drop (k + 1) xs
 one_at {A} xs k x d lt is = let next : k + 1 ≡ suc k = omega arith in rw next (drop-cons xs k d lt ∙ ap (λ (y : A). y ∷ drop (suc k) xs) (sym is))
 
 module _ {V E : Type 0} (none : E) (view : Item → Result V E) where

@@ -3,3 +3,4 @@ pub mod Wrapper
 pub mod Manifests
 pub mod Envelopes
 pub mod Law
+pub mod Plans

@@ -6,11 +6,15 @@
 //! them.
 #![tactic(auto)]
 
+mod commands;
 mod envelope;
 mod fault;
+mod hashing;
+mod indices;
 mod labels;
 mod laws;
 mod manifest;
+mod plan;
 mod read;
 mod read_manifest;
 mod wrapper;
@@ -19,3 +23,4 @@ pub use envelope::{Attached, Envelope};
 pub use fault::EnvelopeFault;
 pub use laws::exactly_one;
 pub use manifest::Manifest;
+pub use plan::Plan;
