@@ -3,4 +3,8 @@ mod Settled
 mod Parting
 mod Strange
 mod Tells
+mod Below
+mod Merging
+mod Again
+mod Back
 pub mod Public

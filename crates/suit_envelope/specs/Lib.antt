@@ -4,3 +4,5 @@ pub mod Manifests
 pub mod Envelopes
 pub mod Law
 pub mod Plans
+pub mod Written
+pub mod Proper

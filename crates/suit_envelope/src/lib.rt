@@ -17,7 +17,10 @@ mod manifest;
 mod plan;
 mod read;
 mod read_manifest;
+#[cfg(test)]
+mod tests;
 mod wrapper;
+mod write;
 
 pub use envelope::{Attached, Envelope};
 pub use fault::EnvelopeFault;

@@ -88,7 +88,9 @@ fn read_item(alloc: Global, item: Item) -> Result<Envelope, EnvelopeFault>
 {
     match into_map(content(item)) {
         Some(pairs) => read_pairs(alloc, pairs),
-        None => Err(EnvelopeFault::Shape { member: WHOLE_FAULT }),
+        None => Err(EnvelopeFault::Shape {
+            member: WHOLE_FAULT,
+        }),
     }
 }
 

@@ -22,7 +22,11 @@ use item_codec::{read_known, read_part, read_required, unwrap_item};
 use std::alloc::Global;
 
 /// The encoding of an identifier, of at most 128 bytes.
-fn read_identifier(alloc: Global, item: &Item, fault: EnvelopeFault) -> Result<Octets, EnvelopeFault>
+fn read_identifier(
+    alloc: Global,
+    item: &Item,
+    fault: EnvelopeFault,
+) -> Result<Octets, EnvelopeFault>
     ensures { Answers EnvelopeFault.NoMemory (identifier fault item.now) result }
 {
     let id = read_part::<_, _, Id>(alloc, item, fault)?;
@@ -39,7 +43,9 @@ fn read_identifiers(alloc: Global, items: &[Item]) -> Result<List<Octets>, Envel
 {
     let mut identifiers = List::new(alloc);
     for item in items {
-        let fault = EnvelopeFault::Shape { member: COMMON_FAULT };
+        let fault = EnvelopeFault::Shape {
+            member: COMMON_FAULT,
+        };
         identifiers.push(read_identifier(alloc, item, fault)?)?;
     }
     Ok(identifiers)
@@ -73,7 +79,9 @@ fn distinct(ids: &[Octets]) -> bool
 fn read_components(alloc: Global, items: &[Item]) -> Result<List<Octets>, EnvelopeFault>
     ensures { Answers EnvelopeFault.NoMemory (components_in items.now) result }
 {
-    let fault = EnvelopeFault::Shape { member: COMMON_FAULT };
+    let fault = EnvelopeFault::Shape {
+        member: COMMON_FAULT,
+    };
     if items.is_empty() || COMPONENTS_LIMIT < items.len() {
         return Err(fault);
     }
@@ -89,7 +97,9 @@ fn read_components(alloc: Global, items: &[Item]) -> Result<List<Octets>, Envelo
 fn read_component_array(alloc: Global, item: Option<&Item>) -> Result<List<Octets>, EnvelopeFault>
     ensures { Answers EnvelopeFault.NoMemory (needed_at components_of (EnvelopeFault.Shape 13) (option_copied item.entry)) result }
 {
-    let fault = EnvelopeFault::Shape { member: COMMON_FAULT };
+    let fault = EnvelopeFault::Shape {
+        member: COMMON_FAULT,
+    };
     match item {
         Some(item) => match item.as_array() {
             Some(members) => read_components(alloc, members),
@@ -103,7 +113,9 @@ fn read_component_array(alloc: Global, item: Option<&Item>) -> Result<List<Octet
 fn read_common_pairs(alloc: Global, pairs: &[Pair]) -> Result<Common, EnvelopeFault>
     ensures { Answers EnvelopeFault.NoMemory (common_in pairs.now) result }
 {
-    let fault = EnvelopeFault::Shape { member: COMMON_FAULT };
+    let fault = EnvelopeFault::Shape {
+        member: COMMON_FAULT,
+    };
     let components = read_component_array(alloc, field(pairs, COMPONENTS))?;
     let shared = read_known::<_, _, ByteString>(alloc, pairs, SHARED, fault)?;
     let other = other_pairs(alloc, &[COMPONENTS, SHARED], pairs)?;
@@ -120,7 +132,9 @@ fn read_common_map(alloc: Global, item: &Item) -> Result<Common, EnvelopeFault>
 {
     match item.as_map() {
         Some(pairs) => read_common_pairs(alloc, pairs),
-        None => Err(EnvelopeFault::Shape { member: COMMON_FAULT }),
+        None => Err(EnvelopeFault::Shape {
+            member: COMMON_FAULT,
+        }),
     }
 }
 
@@ -128,7 +142,9 @@ fn read_common_map(alloc: Global, item: &Item) -> Result<Common, EnvelopeFault>
 fn read_wrapped_common(alloc: Global, item: &Item) -> Result<Common, EnvelopeFault>
     ensures { Answers EnvelopeFault.NoMemory (common_of item.now) result }
 {
-    let fault = EnvelopeFault::Shape { member: COMMON_FAULT };
+    let fault = EnvelopeFault::Shape {
+        member: COMMON_FAULT,
+    };
     let content = unwrap_item(alloc, item, fault)?;
     read_common_map(alloc, &content)
 }
@@ -139,7 +155,9 @@ fn read_common(alloc: Global, item: Option<&Item>) -> Result<Common, EnvelopeFau
 {
     match item {
         Some(item) => read_wrapped_common(alloc, item),
-        None => Err(EnvelopeFault::Shape { member: COMMON_FAULT }),
+        None => Err(EnvelopeFault::Shape {
+            member: COMMON_FAULT,
+        }),
     }
 }
 
@@ -168,7 +186,9 @@ fn is_version(item: Option<&Item>) -> bool
 fn read_versioned(alloc: Global, pairs: &[Pair]) -> Result<Manifest, EnvelopeFault>
     ensures { Answers EnvelopeFault.NoMemory (versioned_in pairs.now) result }
 {
-    let fault = EnvelopeFault::Shape { member: SEQUENCE_FAULT };
+    let fault = EnvelopeFault::Shape {
+        member: SEQUENCE_FAULT,
+    };
     let sequence = read_required::<_, _, Unsigned>(alloc, field(pairs, SEQUENCE), fault, fault)?;
     let common = read_common(alloc, field(pairs, COMMON))?;
     let id = read_id(alloc, field(pairs, ID))?;
