@@ -1,13 +1,13 @@
 -- What is written of a proper envelope is read as it.
-use Rattle.std.proofs.Common.{◌≡◌, ℕ, zero, suc, Bool, true, false, cond, List, [], ◌∷◌, ◌++◌, take, drop, map, Option, Some, None, refl, sym, ap, subst, ◌∙◌}
-use Rattle.std.specs.Prelude.{Result, Ok, Err, not, ◌&&◌}
+use Rattle.std.proofs.Common.{◌≡◌, ℕ, zero, suc, Bool, true, false, cond, List, [], ◌∷◌, ◌++◌, take, drop, map, Option, Some, None, refl, ap, ◌∙◌}
+use Rattle.std.specs.Prelude.{Result, Ok, not, ◌&&◌}
 use Rattle.std.specs.List.{AllByRecursion}
 use Rattle.cbor_core.specs.declared.item.Item.{Item, out-Item}
 use Rattle.cbor_core.specs.declared.item.Item.TheOpen.{Item-F}
 use Rattle.cbor_core.specs.declared.item.Item.TheVariants as i
 use Rattle.cbor_core.specs.declared.item.Pair.{Pair}
 use Rattle.cbor_core.specs.Spelling.{Spells, spelling}
-use Rattle.cbor_core.specs.Views.{bytes_of, array_of, map_of, field}
+use Rattle.cbor_core.specs.Views.{bytes_of, field}
 use Rattle.cbor_core.proofs.Public.Views.{bytes_back, array_back, map_back}
 use Rattle.cbor_fields.specs.Views.{is_other, is_among}
 use Rattle.cbor_fields.specs.Written.{labelled, is_below, put}
@@ -28,9 +28,9 @@ use Rattle.suit_envelope.specs.declared.manifest.Manifest.{Manifest}
 use Rattle.suit_envelope.specs.declared.fault.EnvelopeFault.{EnvelopeFault}
 use Rattle.suit_envelope.specs.declared.fault.EnvelopeFault.TheVariants.{Shape}
 use Rattle.suit_envelope.specs.Each.{each_read}
-use Rattle.suit_envelope.specs.Wrapper.{wrapper_by, wrapper_in, wrapper_of}
+use Rattle.suit_envelope.specs.Wrapper.{wrapper_in, wrapper_of}
 use Rattle.suit_envelope.specs.Manifests.{manifest_of}
-use Rattle.suit_envelope.specs.Envelopes.{is_marked, marked, attached_by, attached_in, before, attached_of, labels, is_attached_by, is_attached, is_kept, kept_of, envelope_in, content_by, content_of, envelope_of, EnvelopeIs}
+use Rattle.suit_envelope.specs.Envelopes.{is_marked, attached_by, attached_in, before, attached_of, labels, is_attached_by, is_attached, is_kept, kept_of, envelope_in, content_by, envelope_of, EnvelopeIs}
 use Rattle.suit_envelope.specs.Written.{wrapper_members, wrapper_item, attached_pair, place_of, merged, envelope_pairs, untagged, tagged}
 use Rattle.suit_envelope.specs.Proper.{IsProperEnvelope}
 use Rattle.suit_envelope.proofs.Parting.{attached_more, kept_more}

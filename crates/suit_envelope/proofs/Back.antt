@@ -1,7 +1,7 @@
 -- An item that is an envelope is the one that the envelope is written as, with the tag or without.
-use Rattle.std.proofs.Common.{◌≡◌, ◌⊎◌, ℕ, zero, suc, ◌+◌, ◌<◌, ◌≤◌, Bool, true, false, cond, List, [], ◌∷◌, ◌++◌, take, drop, map, Option, Some, None, refl, sym, ap, subst, ◌∙◌, inl, inr, lit<, arith}
+use Rattle.std.proofs.Common.{◌≡◌, ◌⊎◌, ℕ, suc, ◌+◌, Bool, true, false, cond, List, [], ◌∷◌, ◌++◌, take, drop, map, Option, Some, None, refl, sym, ap, subst, ◌∙◌, inl, inr, lit<, arith}
 use Rattle.std.specs.Prelude.{Result, Ok, Err, IfOk, ◌==◌, not, ◌&&◌}
-use Rattle.std.specs.List.{AllByRecursion, prefix_len}
+use Rattle.std.specs.List.{AllByRecursion}
 use Rattle.std.proofs.lemmas.Bool.{eqb-true}
 use Rattle.base_types.specs.Bytes.{IsBytes}
 use Rattle.cbor_core.specs.declared.item.Item.{Item, out-Item}
@@ -10,7 +10,7 @@ use Rattle.cbor_core.specs.declared.item.Item.TheVariants as i
 use Rattle.cbor_core.specs.declared.item.Item.TheViews.{roll-Item, roll-out-Item}
 use Rattle.cbor_core.specs.declared.item.Pair.{Pair}
 use Rattle.cbor_core.specs.Spelling.{Spells, spelling, bytes_below, KeysAscend, IsProper, IsInRangeBy, HasRangesWithin}
-use Rattle.cbor_core.specs.Views.{bytes_of, text_of, array_of, map_of, tagged_of, field, labelled_by}
+use Rattle.cbor_core.specs.Views.{bytes_of, array_of, map_of, field, labelled_by}
 use Rattle.cbor_core.proofs.Public.Views.{bytes_is, array_is, map_is}
 use Rattle.cbor_core.proofs.Public.Ranges.{bytes_within, fewer}
 use Rattle.cbor_core.proofs.Public.Parts.{parts_are_proper}
@@ -33,10 +33,10 @@ use Rattle.suit_envelope.specs.declared.manifest.Manifest.{Manifest}
 use Rattle.suit_envelope.specs.declared.fault.EnvelopeFault.{EnvelopeFault}
 use Rattle.suit_envelope.specs.declared.fault.EnvelopeFault.TheVariants.{Shape}
 use Rattle.suit_envelope.specs.Each.{each_read}
-use Rattle.suit_envelope.specs.Wrapper.{wrapper_by, wrapper_in, wrapper_of}
+use Rattle.suit_envelope.specs.Wrapper.{wrapper_in, wrapper_of}
 use Rattle.suit_envelope.specs.Manifests.{manifest_of}
-use Rattle.suit_envelope.specs.Envelopes.{is_marked, marked, attached_by, attached_in, before, attached_of, labels, is_attached_by, is_attached, is_kept, kept_of, envelope_in, content_by, envelope_of, EnvelopeIs}
-use Rattle.suit_envelope.specs.Written.{key_bytes, stands_before, attached_pair, place_of, merged, envelope_pairs, untagged, tagged, wrapper_item}
+use Rattle.suit_envelope.specs.Envelopes.{is_marked, attached_by, attached_in, before, attached_of, labels, is_attached_by, is_attached, is_kept, kept_of, envelope_in, content_by, envelope_of, EnvelopeIs}
+use Rattle.suit_envelope.specs.Written.{stands_before, attached_pair, place_of, merged, envelope_pairs, untagged, tagged, wrapper_item}
 use Rattle.suit_envelope.proofs.Below.{AreAbove, not_both, ascend_above}
 use Rattle.suit_envelope.specs.Proper.{IsProperEnvelope, IsTaggedForm}
 use Rattle.suit_envelope.proofs.Again.{made, built, not_attached, read_again}
@@ -193,9 +193,9 @@ parted_back last (p ∷ ps) ascend = by_case (attached_in p) (is_kept p) refl re
   by_case None true at is more =
       let other : is_other labels p ≡ true = kept_other (is_other labels p) (is_attached p) is in
       rw (at, is, other) (pair_first p (attached_of ps) (kept_of ps) (named_above (spelling p.key) ps above) ∙ ap (λ (qs : List Pair). p ∷ qs) more) where
-    kept_other : (b c : Bool) → b && not c ≡ true → b ≡ true
-    kept_other true c h = refl
-    kept_other false c h = absurd cc
+        kept_other : (b c : Bool) → b && not c ≡ true → b ≡ true
+        kept_other true c h = refl
+        kept_other false c h = absurd cc
   by_case None false at is more =
       let other : is_other labels p ≡ false = not_true (is_other labels p) (is_attached p) is (none_attached_by (out-Item p.key) (out-Item p.value) at) in
       rw (at, is, other) more

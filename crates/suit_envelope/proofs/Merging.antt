@@ -1,5 +1,6 @@
 -- Attached payloads are merged into the pairs that are kept.
-use Rattle.std.proofs.Common.{◌≡◌, ℕ, zero, suc, ◌+◌, ◌<◌, ◌≤◌, Bool, true, false, cond, List, [], ◌∷◌, ◌++◌, length, take, drop, get_or, map, refl, sym, ap, subst, ◌∙◌, append_assoc, arith}
+use Rattle.std.proofs.Common.{◌≡◌, ℕ, zero, suc, ◌+◌, ◌<◌, Bool, true, false, List, [], ◌∷◌, ◌++◌, length, take, drop, get_or, map, refl, sym, ap, subst, ◌∙◌, append_assoc}
+use Rattle.std.specs.Prelude.{◌↔◌, IsTrue}
 use Rattle.std.specs.List.{AllByRecursion, prefix_len}
 use Rattle.cbor_core.specs.declared.item.Item.{Item}
 use Rattle.cbor_core.specs.declared.item.Item.TheVariants as i
@@ -7,7 +8,7 @@ use Rattle.cbor_core.specs.declared.item.Pair.{Pair}
 use Rattle.cbor_core.specs.Spelling.{spelling, bytes_below, IsProper, IsProperWithin}
 use Rattle.cbor_core.proofs.Public.Parts.{parts_are_proper}
 use Rattle.cbor_fields.specs.Written.{labelled, is_below, put}
-use Rattle.cbor_fields.proofs.Public.Puts.{put_end, put_behind, put_here}
+use Rattle.cbor_fields.proofs.Public.Puts.{put_behind, put_here}
 use Rattle.suit_envelope.specs.declared.envelope.Attached.{Attached}
 use Rattle.suit_envelope.specs.declared.envelope.Envelope.{Envelope}
 use Rattle.suit_envelope.specs.Written.{key_bytes, stands_before, attached_pair, place_of, merged, envelope_pairs, untagged, tagged}
@@ -105,3 +106,7 @@ pub step_written : (payloads : List Attached) (k : ℕ) (a : Attached) (pairs to
 step_written payloads k a pairs total new front back rest place is_new is_front is_back at =
     ap (λ (ps : List Pair). ps ++ merged (drop (k + 1) payloads) back) (is_new ∙ ap (λ (fs : List Pair). pairs ++ (fs ++ attached_pair a ∷ [])) is_front)
     ∙ ap (λ (bs : List Pair). (pairs ++ (take place rest ++ attached_pair a ∷ [])) ++ merged (drop (k + 1) payloads) bs) is_back ∙ at
+
+-- keys that are not proper are those of no envelope that may be written
+pub not_writable : (v : Envelope) (b : Bool) (ps : List Pair) → IsTrue b ↔ AllByRecursion (λ p. IsProper p.key) ps → ps ≡ v.other → b ≡ false → IsTrue false ↔ IsProper (tagged v)
+not_writable v b ps is same at = (λ no_truth. absurd cc, λ proper. subst IsTrue at (is.1 (subst (λ (qs : List Pair). AllByRecursion (λ p. IsProper p.key) qs) (sym same) (keys_proper v proper))))

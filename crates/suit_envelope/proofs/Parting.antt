@@ -1,7 +1,6 @@
 -- Pairs that attach a payload, and pairs that are kept.
-use Rattle.std.proofs.Common.{◌≡◌, Bool, true, false, cond, List, [], ◌∷◌, ◌++◌, Option, Some, None, refl, sym, ap, ◌∙◌, append_assoc}
+use Rattle.std.proofs.Common.{◌≡◌, Bool, true, false, List, [], ◌∷◌, ◌++◌, Option, Some, None, refl, ap, ◌∙◌}
 use Rattle.cbor_core.specs.declared.item.Pair.{Pair}
-use Rattle.suit_envelope.specs.declared.envelope.Attached.{Attached}
 use Rattle.suit_envelope.specs.Envelopes.{before, attached_in, attached_of, is_kept, kept_of}
 
 before_front : {A : Type 0} (o : Option A) (xs ys : List A) → before o (xs ++ ys) ≡ before o xs ++ ys

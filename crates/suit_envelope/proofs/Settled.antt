@@ -1,5 +1,5 @@
 -- No envelope is refused for want of memory.
-use Rattle.std.proofs.Common.{◌≡◌, ℕ, Bool, true, false, cond, List, [], ◌∷◌, Option, Some, None}
+use Rattle.std.proofs.Common.{◌≡◌, ℕ, Bool, true, false, cond, List, [], ◌∷◌, Option}
 use Rattle.std.specs.Prelude.{Result, Ok, Err, nat_le, length, ◌&&◌}
 use Rattle.cbor_core.specs.declared.item.Item.{Item}
 use Rattle.cbor_core.specs.declared.item.Pair.{Pair}
@@ -14,7 +14,7 @@ use Rattle.suit_commands.specs.Digests.{wrapped_digest_of}
 use Rattle.suit_envelope.specs.declared.fault.EnvelopeFault.{EnvelopeFault}
 use Rattle.suit_envelope.specs.declared.fault.EnvelopeFault.TheVariants.{Shape, NoMemory}
 use Rattle.suit_envelope.specs.Each.{each_read}
-use Rattle.suit_envelope.specs.Wrapper.{wrapper_by, wrapper_in, wrapper_of}
+use Rattle.suit_envelope.specs.Wrapper.{wrapper_in, wrapper_of}
 use Rattle.suit_envelope.specs.Manifests.{identifier, are_distinct, distinct, components_in, components_of, common_in, common_of, is_version, versioned_in, manifest_in, manifest_of}
 use Rattle.suit_envelope.specs.Envelopes.{content_of, envelope_in, envelope_of}
 

@@ -1,5 +1,5 @@
 -- Which envelope an item is, or its first refusal; and which envelope bytes are (draft-ietf-suit-manifest, "SUIT_Envelope").
-use Rattle.std.specs.Prelude.{ℕ, ◌==◌, ◌&&◌, not, Bool, true, false, List, [], ◌∷◌, Option, Some, None, option_map, Result, Ok, Err, if◌then◌else◌}
+use Rattle.std.specs.Prelude.{ℕ, ◌==◌, ◌&&◌, not, Bool, false, List, [], ◌∷◌, Option, Some, None, Result, Ok, if◌then◌else◌}
 use Rattle.std.specs.List.{filter}
 use Rattle.cbor_core.specs.declared.item.Item.{Item, out-Item}
 use Rattle.cbor_core.specs.declared.item.Item.TheOpen.{Item-F}

@@ -1,7 +1,6 @@
 -- The wrapper of an envelope: the digest of its manifest, and the blocks that sign it (draft-ietf-suit-manifest, "SUIT_Authentication").
-use Rattle.std.specs.Prelude.{List, [], ◌∷◌, Result, Ok, Err, map}
+use Rattle.std.specs.Prelude.{List, [], ◌∷◌, Result, Err}
 use Rattle.cbor_core.specs.declared.item.Item.{Item}
-use Rattle.cbor_core.specs.declared.item.Item.TheVariants as i
 use Rattle.cbor_core.specs.Views.{bytes_of}
 use Rattle.item_codec.specs.Answers.{mapped}
 use Rattle.item_codec.specs.Fields.{shaped, part, in_array}

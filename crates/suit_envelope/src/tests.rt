@@ -480,3 +480,48 @@ fn plans_are_read_in_their_order(rt: HostRuntime) -> Result<(), Fail> {
     }
     Ok(())
 }
+
+// What the envelope of bytes is written as, where it may be written.
+fn rewritten(alloc: Global, bytes: &[u8]) -> Result<Option<Octets>, EnvelopeFault> {
+    let envelope = Envelope::read(alloc, bytes)?;
+    if envelope.is_writable(alloc)? {
+        Ok(Some(envelope.write(alloc)?))
+    } else {
+        Ok(None)
+    }
+}
+
+#[test]
+fn an_envelope_is_written_as_it_was_read(rt: HostRuntime) -> Result<(), Fail> {
+    let alloc = rt.alloc();
+    let wrapper = good_wrapper(alloc)?;
+    let manifest = string(alloc, &MANIFEST)?;
+    let table: [(u8, &[u8]); 3] = [
+        (0, &[]),
+        (1, &[0x61, 0x23, 0x41, 5]),
+        // {4: 0, h'23': h'', "#a": h'01', "#b": h'', "ab": h'', [0]: 0}
+        (
+            6,
+            &[
+                4, 0, 0x41, 0x23, 0x40, 0x62, 0x23, 0x61, 0x41, 1, 0x62, 0x23, 0x62, 0x40, 0x62,
+                0x61, 0x62, 0x40, 0x81, 0, 0,
+            ],
+        ),
+    ];
+    for (at, (count, pairs)) in table.iter().enumerate() {
+        let bytes = enveloped(
+            alloc,
+            wrapper.as_slice(),
+            manifest.as_slice(),
+            *count,
+            pairs,
+        )?;
+        let mut tagged = Octets::from_slice(alloc, &[0xd8, 107])?;
+        tagged.extend(bytes.as_slice())?;
+        assert!(rt;
+            rewritten(alloc, bytes.as_slice())? == Some(tagged),
+            "row {at}"
+        );
+    }
+    Ok(())
+}

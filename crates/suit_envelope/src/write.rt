@@ -1,4 +1,4 @@
-ghost use Rattle.std.specs.Prelude.{◌≡◌, ◌∷◌, ◌++◌, ◌≤◌, ℕ, List, [], length, map, take, drop, OnOk, IfOk};
+ghost use Rattle.std.specs.Prelude.{◌≡◌, ◌↔◌, ◌∷◌, ◌++◌, ◌≤◌, ℕ, List, [], length, map, IsTrue, OnOk, IfOk};
 ghost use Rattle.std.specs.List.{prefix_len, AllByRecursion};
 ghost use Rattle.cbor_core.specs.declared.item.Item.TheVariants as i;
 ghost use Rattle.cbor_core.specs.Spelling.{IsProper, Spells, bytes_below, spelling};
@@ -9,7 +9,7 @@ ghost use Rattle.suit_envelope.specs.Proper.{IsProperEnvelope, IsTaggedForm};
 use crate::envelope::{Attached, Envelope};
 use crate::labels::{ENVELOPE_TAG, MANIFEST, WRAPPER};
 use base_types::{Boxed, List, Octets, OrMemory};
-use cbor_core::{Item, Pair, encode};
+use cbor_core::{Item, Pair, encode, is_proper};
 use cbor_fields::{ByteString, put_needed};
 use cbor_heads::Writer;
 use std::alloc::Global;
@@ -30,6 +30,18 @@ impl Envelope {
     {
         let item = self.to_item(alloc)?;
         encode(alloc, &item)
+    }
+
+    /// Whether the envelope may be written: whether the item of its tagged form is proper. Refused for
+    /// want of memory alone.
+    pub fn is_writable(&self, alloc: Global) -> OrMemory<bool>
+        ensures { IfOk result (λ b. IsTrue b ↔ IsProper (tagged self.now)) }
+    {
+        if !has_proper_keys(alloc, self.other.as_slice())? {
+            return Ok(false);
+        }
+        let item = self.to_item(alloc)?;
+        is_proper(alloc, &item)
     }
 
     /// The item of the tagged form.
@@ -64,6 +76,18 @@ impl Envelope {
         }
         Ok(members)
     }
+}
+
+/// Whether each key is proper.
+fn has_proper_keys(alloc: Global, pairs: &[Pair]) -> OrMemory<bool>
+    ensures { IfOk result (λ b. IsTrue b ↔ AllByRecursion (λ p. IsProper p.key) pairs.now) }
+{
+    for pair in pairs {
+        if !is_proper(alloc, &pair.key)? {
+            return Ok(false);
+        }
+    }
+    Ok(true)
 }
 
 /// The encodings of the keys of pairs.

@@ -1,7 +1,7 @@
 use Rattle.std.proofs.Common.{sym, ◌∙◌, ap, ◌++◌, List, [], ◌∷◌}
 use Rattle.cbor_core.specs.declared.item.Pair.{Pair}
 use Rattle.suit_envelope.specs.declared.envelope.Attached.{Attached}
-use Rattle.suit_envelope.specs.Envelopes.{before, attached_in, attached_of, kept_of}
+use Rattle.suit_envelope.specs.Envelopes.{before, attached_in, kept_of}
 use Rattle.suit_envelope.proofs.Parting.{attached_more, kept_more}
 use Rattle.suit_envelope.proofs.read.parted.Goals as goal
 

@@ -1,6 +1,5 @@
-use Rattle.std.proofs.Common.{ℕ, ◌<◌, arith}
+use Rattle.std.proofs.Common.{arith}
 use Rattle.std.specs.Prelude.{Ok, Err}
-use Rattle.base_types.specs.Bytes.{IsBytes}
 use Rattle.item_codec.proofs.Public.Whole.{found, only, bad}
 use Rattle.suit_envelope.specs.declared.fault.EnvelopeFault.TheVariants.{Cbor, NoMemory}
 use Rattle.suit_envelope.specs.Envelopes.{envelope_of}
