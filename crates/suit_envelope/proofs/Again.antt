@@ -32,7 +32,7 @@ use Rattle.suit_envelope.specs.Wrapper.{wrapper_in, wrapper_of}
 use Rattle.suit_envelope.specs.Manifests.{manifest_of}
 use Rattle.suit_envelope.specs.Envelopes.{is_marked, attached_by, attached_in, before, attached_of, labels, is_attached_by, is_attached, is_kept, kept_of, envelope_in, content_by, envelope_of, EnvelopeIs}
 use Rattle.suit_envelope.specs.Written.{wrapper_members, wrapper_item, attached_pair, place_of, merged, envelope_pairs, untagged, tagged}
-use Rattle.suit_envelope.specs.Proper.{IsProperEnvelope}
+use Rattle.suit_envelope.specs.Proper.{HasProperFields}
 use Rattle.suit_envelope.proofs.Parting.{attached_more, kept_more}
 
 -- ---- the wrapper
@@ -161,7 +161,7 @@ kept_put label x (p ∷ ps) among = by_test (is_below label p) refl (kept_put la
 
 -- ---- the envelope
 
-module _ (v : Envelope) (proper : IsProperEnvelope v) (spelled : Spells (wrapper_item v) (spelling (wrapper_item v))) where
+module _ (v : Envelope) (proper : HasProperFields v) (spelled : Spells (wrapper_item v) (spelling (wrapper_item v))) where
   digest_again : wrapped_digest_of (i.Bytes v.digest_bytes) ≡ Some v.digest
   digest_again =
       ap (λ (r : Result Item FormFault). value_of (and_then (in_array form.Shape digest_in) r)) (content_is form.Shape (i.Bytes v.digest_bytes) v.digest_bytes proper.digest.item (bytes_back v.digest_bytes) proper.digest.spelled)
@@ -203,8 +203,10 @@ module _ (v : Envelope) (proper : IsProperEnvelope v) (spelled : Spells (wrapper
   envelope_again =
       ap (λ (o : Option Item). built (attached_of (envelope_pairs v)) (kept_of (envelope_pairs v)) (needed_at wrapper_of (Shape 2) o) (needed_at (wrapped (Shape 3) manifest_of) (Shape 3) (field 3 (envelope_pairs v)))
       (needed_at (shaped (Shape 3) bytes_of) (Shape 3) (field 3 (envelope_pairs v)))) at_two
-      ∙ ap (λ (o : Option Item). built (attached_of (envelope_pairs v)) (kept_of (envelope_pairs v)) (wrapper_of (wrap wrapper_item v)) (needed_at (wrapped (Shape 3) manifest_of) (Shape 3) o) (needed_at (shaped (Shape 3) bytes_of) (Shape 3) o)) at_three
-      ∙ ap (λ (r : Result Wrapper EnvelopeFault). built (attached_of (envelope_pairs v)) (kept_of (envelope_pairs v)) r (wrapped (Shape 3) manifest_of (i.Bytes v.manifest_bytes)) (shaped (Shape 3) bytes_of (i.Bytes v.manifest_bytes))) wrapper_again
+      ∙ ap (λ (o : Option Item). built (attached_of (envelope_pairs v)) (kept_of (envelope_pairs v)) (wrapper_of (wrap wrapper_item v))
+      (needed_at (wrapped (Shape 3) manifest_of) (Shape 3) o) (needed_at (shaped (Shape 3) bytes_of) (Shape 3) o)) at_three
+      ∙ ap (λ (r : Result Wrapper EnvelopeFault). built (attached_of (envelope_pairs v)) (kept_of (envelope_pairs v)) r
+      (wrapped (Shape 3) manifest_of (i.Bytes v.manifest_bytes)) (shaped (Shape 3) bytes_of (i.Bytes v.manifest_bytes))) wrapper_again
       ∙ ap (λ (r : Result Manifest EnvelopeFault). built (attached_of (envelope_pairs v)) (kept_of (envelope_pairs v)) (Ok wrapper) r (shaped (Shape 3) bytes_of (i.Bytes v.manifest_bytes))) manifest_again
       ∙ ap (λ (o : Option (List ℕ)). built (attached_of (envelope_pairs v)) (kept_of (envelope_pairs v)) (Ok wrapper) (Ok v.manifest) (or_fault (Shape 3) o)) (bytes_back v.manifest_bytes)
       ∙ ap (λ (payloads : List Attached). Ok (record v { attached = payloads; other = kept_of (envelope_pairs v) })) attached_is

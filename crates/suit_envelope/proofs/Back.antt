@@ -65,7 +65,8 @@ blocks_are (x ∷ xs) bs e = by_first (bytes_of x) refl (λ cs h. blocks_are xs 
 members_are : (xs : List Item) (w : Wrapper) → wrapper_in xs ≡ Ok w → i.Array xs ≡ array_item w
 members_are [] w e = absurd cc
 members_are (d ∷ xs) w e = by_parts (wrapped_digest_of d) (bytes_of d) (each_read (shaped (Shape 2) bytes_of) xs) refl refl e where
-  by_parts : (o : Option Digest) (b : Option (List ℕ)) (r : Result (List (List ℕ)) EnvelopeFault) → bytes_of d ≡ b → each_read (shaped (Shape 2) bytes_of) xs ≡ r → made o b r ≡ Ok w → i.Array (d ∷ xs) ≡ array_item w
+  by_parts : (o : Option Digest) (b : Option (List ℕ)) (r : Result (List (List ℕ)) EnvelopeFault) → bytes_of d ≡ b → each_read (shaped (Shape 2) bytes_of) xs ≡ r
+      → made o b r ≡ Ok w → i.Array (d ∷ xs) ≡ array_item w
   by_parts None b r at is h = absurd cc
   by_parts (Some value) None r at is h = absurd cc
   by_parts (Some value) (Some b) (Err f) at is h = absurd cc
@@ -88,7 +89,8 @@ wrapper_is x d w ranges e = by_bytes (bytes_of x) refl e where
       let s = item_spells b y are in_b in
       bytes_is x b at ∙ ap (λ (t : List ℕ). i.Bytes t) (s.spelled ∙ ap spelling (content_array y w h))
 
-  by_bytes : (o : Option (List ℕ)) → bytes_of x ≡ o → and_then (in_array (Shape 2) wrapper_in) (and_then (λ (b : List ℕ). or_fault (Shape 2) (item_in b)) (or_fault (Shape 2) o)) ≡ Ok w → x ≡ i.Bytes (spelling (array_item w))
+  by_bytes : (o : Option (List ℕ)) → bytes_of x ≡ o → and_then (in_array (Shape 2) wrapper_in) (and_then (λ (b : List ℕ). or_fault (Shape 2) (item_in b)) (or_fault (Shape 2) o)) ≡ Ok w
+      → x ≡ i.Bytes (spelling (array_item w))
   by_bytes None at h = absurd cc
   by_bytes (Some b) at h = by_item b at (item_in b) refl h
 
@@ -203,25 +205,27 @@ parted_back last (p ∷ ps) ascend = by_case (attached_in p) (is_kept p) refl re
 -- ---- the pairs
 
 -- what is read of the pairs of an envelope
-record Parts (ps : List Pair) (v : Envelope) : Type 0 where
-  two : Item
-  three : Item
-  wrapper : Wrapper
-  at_two : field 2 ps ≡ Some two
-  at_three : field 3 ps ≡ Some three
-  is_wrapper : wrapper_of two ≡ Ok wrapper
-  is_bytes : bytes_of three ≡ Some v.manifest_bytes
-  digest_bytes : wrapper.digest_bytes ≡ v.digest_bytes
-  blocks : wrapper.blocks ≡ v.blocks
-  attached : attached_of ps ≡ v.attached
-  other : kept_of ps ≡ v.other
+pub record Parts (ps : List Pair) (v : Envelope) : Type 0 where
+  pub two : Item
+  pub three : Item
+  pub wrapper : Wrapper
+  pub at_two : field 2 ps ≡ Some two
+  pub at_three : field 3 ps ≡ Some three
+  pub is_wrapper : wrapper_of two ≡ Ok wrapper
+  pub is_bytes : bytes_of three ≡ Some v.manifest_bytes
+  pub is_manifest : wrapped (Shape 3) manifest_of three ≡ Ok v.manifest
+  pub digest : wrapper.digest ≡ v.digest
+  pub digest_bytes : wrapper.digest_bytes ≡ v.digest_bytes
+  pub blocks : wrapper.blocks ≡ v.blocks
+  pub attached : attached_of ps ≡ v.attached
+  pub other : kept_of ps ≡ v.other
 
-parts_of : (ps : List Pair) (v : Envelope) → envelope_in ps ≡ Ok v → Parts ps v
+pub parts_of : (ps : List Pair) (v : Envelope) → envelope_in ps ≡ Ok v → Parts ps v
 parts_of ps v e = by_two (field 2 ps) (field 3 ps) refl refl e where
-  by_bytes : (x y : Item) (w : Wrapper) (m : Manifest) → field 2 ps ≡ Some x → field 3 ps ≡ Some y → wrapper_of x ≡ Ok w → (o : Option (List ℕ)) → bytes_of y ≡ o
-      → built (attached_of ps) (kept_of ps) (Ok w) (Ok m) (or_fault (Shape 3) o) ≡ Ok v → Parts ps v
-  by_bytes x y w m at_two at_three is_w None is_b h = absurd cc
-  by_bytes x y w m at_two at_three is_w (Some b) is_b h =
+  by_bytes : (x y : Item) (w : Wrapper) (m : Manifest) → field 2 ps ≡ Some x → field 3 ps ≡ Some y → wrapper_of x ≡ Ok w
+      → wrapped (Shape 3) manifest_of y ≡ Ok m → (o : Option (List ℕ)) → bytes_of y ≡ o → built (attached_of ps) (kept_of ps) (Ok w) (Ok m) (or_fault (Shape 3) o) ≡ Ok v → Parts ps v
+  by_bytes x y w m at_two at_three is_w is_m None is_b h = absurd cc
+  by_bytes x y w m at_two at_three is_w is_m (Some b) is_b h =
       let same : record {
         digest = w.digest;
         digest_bytes = w.digest_bytes;
@@ -239,6 +243,8 @@ parts_of ps v e = by_two (field 2 ps) (field 3 ps) refl refl e where
         at_three = at_three;
         is_wrapper = is_w;
         is_bytes = is_b ∙ ap (λ (u : Envelope). Some u.manifest_bytes) same;
+        is_manifest = is_m ∙ ap (λ (u : Envelope). Ok u.manifest) same;
+        digest = ap (λ (u : Envelope). u.digest) same;
         digest_bytes = ap (λ (u : Envelope). u.digest_bytes) same;
         blocks = ap (λ (u : Envelope). u.blocks) same;
         attached = ap (λ (u : Envelope). u.attached) same;
@@ -246,14 +252,14 @@ parts_of ps v e = by_two (field 2 ps) (field 3 ps) refl refl e where
       }
 
   by_manifest : (x y : Item) (w : Wrapper) → field 2 ps ≡ Some x → field 3 ps ≡ Some y → wrapper_of x ≡ Ok w → (r : Result Manifest EnvelopeFault)
-      → built (attached_of ps) (kept_of ps) (Ok w) r (shaped (Shape 3) bytes_of y) ≡ Ok v → Parts ps v
-  by_manifest x y w at_two at_three is_w (Err f) h = absurd cc
-  by_manifest x y w at_two at_three is_w (Ok m) h = by_bytes x y w m at_two at_three is_w (bytes_of y) refl h
+      → wrapped (Shape 3) manifest_of y ≡ r → built (attached_of ps) (kept_of ps) (Ok w) r (shaped (Shape 3) bytes_of y) ≡ Ok v → Parts ps v
+  by_manifest x y w at_two at_three is_w (Err f) is_m h = absurd cc
+  by_manifest x y w at_two at_three is_w (Ok m) is_m h = by_bytes x y w m at_two at_three is_w is_m (bytes_of y) refl h
 
   by_wrapper : (x y : Item) → field 2 ps ≡ Some x → field 3 ps ≡ Some y → (r : Result Wrapper EnvelopeFault) → wrapper_of x ≡ r
       → built (attached_of ps) (kept_of ps) r (wrapped (Shape 3) manifest_of y) (shaped (Shape 3) bytes_of y) ≡ Ok v → Parts ps v
   by_wrapper x y at_two at_three (Err f) is h = absurd cc
-  by_wrapper x y at_two at_three (Ok w) is h = by_manifest x y w at_two at_three is (wrapped (Shape 3) manifest_of y) h
+  by_wrapper x y at_two at_three (Ok w) is h = by_manifest x y w at_two at_three is (wrapped (Shape 3) manifest_of y) refl h
 
   by_none : (r : Result Wrapper EnvelopeFault) → built (attached_of ps) (kept_of ps) r (Err (Shape 3)) (Err (Shape 3)) ≡ Ok v → ⊥
   by_none (Err f) h = cc
@@ -265,7 +271,7 @@ parts_of ps v e = by_two (field 2 ps) (field 3 ps) refl refl e where
   by_two (Some x) None at_two at_three h = absurd (by_none (wrapper_of x) h)
   by_two (Some x) (Some y) at_two at_three h = by_wrapper x y at_two at_three (wrapper_of x) refl h
 
-ranged : (label : ℕ) (ps : List Pair) (x : Item) → AllByRecursion (λ p. HasRangesWithin 14 p.key × HasRangesWithin 14 p.value) ps → field label ps ≡ Some x → HasRangesWithin 14 x
+pub ranged : (label : ℕ) (ps : List Pair) (x : Item) → AllByRecursion (λ p. HasRangesWithin 14 p.key × HasRangesWithin 14 p.value) ps → field label ps ≡ Some x → HasRangesWithin 14 x
 ranged label [] x all e = absurd cc
 ranged label (p ∷ ps) x all e = here (labelled_by label (out-Item p.key)) refl (λ later. ranged label ps x all.1 later) where
   here : (b : Bool) → labelled_by label (out-Item p.key) ≡ b → (field label ps ≡ Some x → HasRangesWithin 14 x) → HasRangesWithin 14 x
@@ -333,7 +339,7 @@ in_tagged_form v written bytes s is = by_form (item_form is.item v (record { pro
 
 pub writes_again : (v : Envelope) (x : Item) (r : Result (List ℕ) WantOfMemory) → x ≡ tagged v → Spells (wrapper_item v) (spelling (wrapper_item v)) → IfOk r (λ bytes. Spells x bytes)
     → IfOk r (λ bytes. IsProperEnvelope v → EnvelopeIs v bytes)
-writes_again v x (Ok bytes) same wrapper s = λ proper. read_again v proper wrapper bytes (subst (λ (y : Item). Spells y bytes) same s)
+writes_again v x (Ok bytes) same wrapper s = λ proper. read_again v proper.fields wrapper bytes (subst (λ (y : Item). Spells y bytes) same s)
 writes_again v x (Err e) same wrapper s = tt
 
 pub writes_form : (v : Envelope) (x : Item) (r : Result (List ℕ) WantOfMemory) → x ≡ tagged v → IfOk r (λ bytes. Spells x bytes)

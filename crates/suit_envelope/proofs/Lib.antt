@@ -7,4 +7,6 @@ mod Below
 mod Merging
 mod Again
 mod Back
+mod Found
+mod Planned
 pub mod Public

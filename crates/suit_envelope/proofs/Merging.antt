@@ -101,7 +101,8 @@ pub keys_behind : (rest back : List Pair) (keys keys_back : List (List ℕ)) (pl
 keys_behind rest back keys keys_back place is_keys is_back is =
     is ∙ ap (λ (ks : List (List ℕ)). drop place ks) is_keys ∙ dropped place rest ∙ ap (λ (ps : List Pair). map key_bytes ps) (sym is_back)
 
-pub step_written : (payloads : List Attached) (k : ℕ) (a : Attached) (pairs total new front back rest : List Pair) (place : ℕ) → new ≡ pairs ++ (front ++ attached_pair a ∷ []) → front ≡ take place rest → back ≡ drop place rest
+pub step_written : (payloads : List Attached) (k : ℕ) (a : Attached) (pairs total new front back rest : List Pair) (place : ℕ)
+    → new ≡ pairs ++ (front ++ attached_pair a ∷ []) → front ≡ take place rest → back ≡ drop place rest
     → (pairs ++ (take place rest ++ attached_pair a ∷ [])) ++ merged (drop (k + 1) payloads) (drop place rest) ≡ total → new ++ merged (drop (k + 1) payloads) back ≡ total
 step_written payloads k a pairs total new front back rest place is_new is_front is_back at =
     ap (λ (ps : List Pair). ps ++ merged (drop (k + 1) payloads) back) (is_new ∙ ap (λ (fs : List Pair). pairs ++ (fs ++ attached_pair a ∷ [])) is_front)

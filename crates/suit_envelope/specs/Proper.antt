@@ -17,13 +17,17 @@ pub record SpellsDigest (bytes : List ℕ) (digest : Digest) : Type 0 where
   pub spelled : Spells item bytes
   pub is : digest_of item ≡ Some digest
 
--- The bytes of manifest and digest spell them, names begin with `#`, no other pair is a member or a payload, and the tagged item is
--- proper: at most 16 containers stand inside one another, and keys ascend (RFC 8949, section 4.2.1).
-pub record IsProperEnvelope (v : Envelope) : Type 0 where
+-- the bytes of digest and manifest spell them, names begin with `#`, and no other pair is a member or a payload
+pub record HasProperFields (v : Envelope) : Type 0 where
   pub digest : SpellsDigest v.digest_bytes v.digest
   pub manifest : HasValue manifest_of v.manifest_bytes v.manifest
   pub attached : AllByRecursion (λ a. is_marked a.name ≡ true) v.attached
   pub other : AllByRecursion (λ p. is_kept p ≡ true) v.other
+
+-- The fields keep their rules, and the tagged item is proper: at most 16 containers stand inside one another, and keys ascend (RFC 8949,
+-- section 4.2.1).
+pub record IsProperEnvelope (v : Envelope) : Type 0 where
+  pub fields : HasProperFields v
   pub item : IsProper (tagged v)
 
 -- what is written is the bytes themselves, or the tag and then the bytes

@@ -24,6 +24,6 @@ mod write;
 
 pub use envelope::{Attached, Envelope};
 pub use fault::EnvelopeFault;
-pub use laws::exactly_one;
+pub use laws::{exactly_one, fields_are_proper, one_plan};
 pub use manifest::Manifest;
 pub use plan::Plan;

@@ -1,4 +1,4 @@
-use crate::{Envelope, EnvelopeFault, exactly_one};
+use crate::{Envelope, EnvelopeFault, exactly_one, fields_are_proper, one_plan};
 use base_types::{Octets, OrMemory};
 use cbor_core::{Fault, Why};
 use std::alloc::Global;
@@ -72,6 +72,8 @@ const MANIFEST: [u8; 17] = [
 fn an_envelope_has_its_members(rt: HostRuntime) -> Result<(), Fail> {
     let alloc = rt.alloc();
     exactly_one();
+    fields_are_proper();
+    one_plan();
     let table: [(&[u8], Option<EnvelopeFault>); 9] = [
         (&[0x80], shape(0)),
         (&[0xa0], shape(2)),

@@ -6,8 +6,9 @@ use Rattle.suit_envelope.specs.declared.envelope.Envelope.{Envelope}
 use Rattle.suit_envelope.specs.declared.fault.EnvelopeFault.{EnvelopeFault}
 use Rattle.suit_envelope.specs.declared.fault.EnvelopeFault.TheVariants.{Cbor, NoMemory}
 use Rattle.suit_envelope.specs.Envelopes.{envelope_of, EnvelopeIs, RefusedAs}
-use Rattle.suit_envelope.specs.Law.{ExactlyOne}
+use Rattle.suit_envelope.specs.Law.{ExactlyOne, FieldsAreProper}
 use Rattle.suit_envelope.proofs.Settled.{envelope_settled}
+use Rattle.suit_envelope.proofs.Found.{item_fields}
 
 -- bytes are one envelope at most
 pub one_envelope : (bytes : List ℕ) (v w : Envelope) → EnvelopeIs v bytes → EnvelopeIs w bytes → v ≡ w
@@ -22,3 +23,7 @@ cbor_told f e = cc
 
 pub exactly_one : ExactlyOne
 exactly_one bytes are = whole.one_answer NoMemory (λ f. Cbor f) cbor_told envelope_of envelope_settled bytes are
+
+-- an envelope that was read has proper fields
+pub fields_are_proper : FieldsAreProper
+fields_are_proper v bytes is = item_fields is.item v is.spelled.ranges is.is

@@ -8,11 +8,13 @@ use Rattle.suit_envelope.proofs.wrapper.read_blocks.Goals as goal
 pub returns-in_err-read_part : goal.returns-in_err-read_part
 returns-in_err-read_part c =
     let p = err_from_is_err_and c.from_residual.result c.from_residual.ensures.1 in
-    rw (p.1, p.2) (each_stops NoMemory (shaped (Shape 2) bytes_of) c.loop-item.blocks c.args.items.now c.loop-item.item-index c.item-item.result _ c.loop-item-test.true c.item-item.is c.loop-item.invariant _ c.in_err-read_part.ensures.found)
+    rw (p.1, p.2) (each_stops NoMemory (shaped (Shape 2) bytes_of) c.loop-item.blocks c.args.items.now c.loop-item.item-index c.item-item.result _
+    c.loop-item-test.true c.item-item.is c.loop-item.invariant _ c.in_err-read_part.ensures.found)
 
 pub loop-item-preserved : goal.loop-item-preserved
 loop-item-preserved c =
-    rw c.in_ok-push.ensures.ok (each_goes_on NoMemory (shaped (Shape 2) bytes_of) c.loop-item.blocks c.args.items.now c.loop-item.item-index c.item-item.result _ c.loop-item-test.true c.item-item.is c.loop-item.invariant _ c.in_ok-read_part.ensures.found)
+    rw c.in_ok-push.ensures.ok (each_goes_on NoMemory (shaped (Shape 2) bytes_of) c.loop-item.blocks c.args.items.now c.loop-item.item-index c.item-item.result _
+    c.loop-item-test.true c.item-item.is c.loop-item.invariant _ c.in_ok-read_part.ensures.found)
 
 pub returns : goal.returns
 returns c = each_ends NoMemory (shaped (Shape 2) bytes_of) c.loop-item.blocks c.args.items.now c.loop-item.item-index c.loop-item-test.false c.loop-item.invariant
