@@ -16,9 +16,9 @@ use std::alloc::Global;
 use std::cmp::Ordering;
 
 impl Envelope {
-    /// The bytes of the envelope, with the tag 107. The item of the tagged form is proper: at most 16
-    /// containers stand inside one another, and the keys ascend, so that an envelope that was read
-    /// with 16 and without the tag is none to be written. Refused for want of memory alone.
+    /// The bytes of the envelope, with the tag 107. The item of the tagged form is proper, as it is of
+    /// each envelope for which `is_writable` says yes. A payload is copied twice. Refused for want of
+    /// memory alone.
     pub fn write(&self, alloc: Global) -> OrMemory<Octets>
         requires { IsProper (tagged self.now) }
         // The bytes spell the tagged form.
@@ -32,8 +32,9 @@ impl Envelope {
         encode(alloc, &item)
     }
 
-    /// Whether the envelope may be written: whether the item of its tagged form is proper. Refused for
-    /// want of memory alone.
+    /// Whether the envelope may be written: whether the item of its tagged form is proper. Its keys
+    /// ascend, and the tag is no seventeenth container, which it may be of an envelope that was read
+    /// without. It takes memory for a copy of the envelope, and is refused for want of it alone.
     pub fn is_writable(&self, alloc: Global) -> OrMemory<bool>
         ensures { IfOk result (λ b. IsTrue b ↔ IsProper (tagged self.now)) }
     {
