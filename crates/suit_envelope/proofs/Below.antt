@@ -6,14 +6,14 @@ use Rattle.std.proofs.lemmas.Bool.{le-ltb, lt-ltb, eq-eqb, ltb-true, eqb-true}
 use Rattle.cbor_core.specs.declared.item.Pair.{Pair}
 use Rattle.cbor_core.specs.Spelling.{spelling, bytes_below, KeysAscend}
 
-first_below : (a b : ℕ) (s t : List ℕ) → a < b → bytes_below (a ∷ s) (b ∷ t) ≡ true
-first_below a b s t lt = let e : nat_lt a b ≡ true = lt-ltb a b lt in rw e refl
-
-first_same : (a b : ℕ) (s t : List ℕ) → a ≡ b → bytes_below s t ≡ true → bytes_below (a ∷ s) (b ∷ t) ≡ true
-first_same a b s t is below =
+-- what is before at the first byte, or is the same there and before behind it, is before
+joined : (a b : ℕ) (s t : List ℕ) → (a < b) ⊎ ((a ≡ b) × (bytes_below s t ≡ true)) → bytes_below (a ∷ s) (b ∷ t) ≡ true
+joined a b s t (inl lt) = let e : nat_lt a b ≡ true = lt-ltb a b lt in rw e refl
+joined a b s t (inr equal) =
+    let is : a ≡ b = equal.0 in
     let not_less : nat_lt a b ≡ false = le-ltb a b (omega arith) in
     let same : (a == b) ≡ true = eq-eqb a b is in
-    rw (not_less, same) below
+    rw (not_less, same) equal.1
 
 -- the first byte decides, or else what is behind it
 split : (a b : ℕ) (s t : List ℕ) → bytes_below (a ∷ s) (b ∷ t) ≡ true → (a < b) ⊎ ((a ≡ b) × (bytes_below s t ≡ true))
@@ -32,10 +32,10 @@ below_more [] (y ∷ t) (z ∷ u) ab bc = refl
 below_more (x ∷ s) (y ∷ t) (z ∷ u) ab bc = by_both (split x y s t ab) (split y z t u bc) (below_more s t u) where
   by_both : (x < y) ⊎ ((x ≡ y) × (bytes_below s t ≡ true)) → (y < z) ⊎ ((y ≡ z) × (bytes_below t u ≡ true))
       → (bytes_below s t ≡ true → bytes_below t u ≡ true → bytes_below s u ≡ true) → bytes_below (x ∷ s) (z ∷ u) ≡ true
-  by_both (inl lt) (inl more) behind = first_below x z s u (omega arith)
-  by_both (inl lt) (inr more) behind = let e : y ≡ z = more.0 in first_below x z s u (omega arith)
-  by_both (inr same) (inl more) behind = let e : x ≡ y = same.0 in first_below x z s u (omega arith)
-  by_both (inr same) (inr more) behind = first_same x z s u (same.0 ∙ more.0) (behind same.1 more.1)
+  by_both (inl lt) (inl more) behind = joined x z s u (inl (omega arith))
+  by_both (inl lt) (inr more) behind = let e : y ≡ z = more.0 in joined x z s u (inl (omega arith))
+  by_both (inr same) (inl more) behind = let e : x ≡ y = same.0 in joined x z s u (inl (omega arith))
+  by_both (inr same) (inr more) behind = joined x z s u (inr (same.0 ∙ more.0, behind same.1 more.1))
 
 pub not_both : (a b : List ℕ) → bytes_below a b ≡ true → bytes_below b a ≡ true → ⊥
 not_both [] [] ab ba = absurd cc

@@ -17,8 +17,6 @@ mod manifest;
 mod plan;
 mod read;
 mod read_manifest;
-#[cfg(test)]
-mod tests;
 mod wrapper;
 mod write;
 

@@ -1,9 +1,9 @@
-use crate::{Envelope, EnvelopeFault, exactly_one, fields_are_proper, one_plan};
 use base_types::{Octets, OrMemory};
 use cbor_core::{Fault, Why};
 use std::alloc::Global;
 use std::test::Fail;
 use suit_commands::SequenceFault;
+use suit_envelope::{Envelope, EnvelopeFault, exactly_one, fields_are_proper, one_plan};
 
 // Of an envelope that is read, or of a plan.
 const GOOD: Option<EnvelopeFault> = None;
