@@ -1,5 +1,5 @@
 #!/usr/bin/env python3
-"""Times the proved programs on large inputs, by hand, best of five runs each, and weighs the greatest frames. It judges nothing.
+"""Times the proved programs on large inputs, by hand: best of five runs each. It judges nothing.
 
 Run it after `rt ci`, on a quiet machine.
 """
@@ -145,39 +145,6 @@ def appends():
         print(f"{bodies} bodies of 100 bytes appended: {seconds([hss.PROGRAM, 'append', str(bodies)], b''):.3f} s")
 
 
-def greatest_frames():
-    """Frames of the greatest length that cost a reader that builds items the most."""
-    limit = 2**24
-    flat = cbor(4, limit - 5) + bytes(limit - 5)
-    deep = b"\x81" * 14 + cbor(4, limit - 14 - 5) + bytes(limit - 14 - 5)
-    keys = [cbor(0, n) + b"\x00" for n in range(2**20 - 1)]
-    unsorted = cbor(5, 2**20) + b"".join(keys) + b"\x00\x00"
-    return (("an array of small items", flat), ("the same, 15 arrays deep", deep), ("a map of 2^20 keys, the last out of order", unsorted))
-
-
-def memory():
-    """What frames cost before a key has signed them: their own size, and what an empty run costs."""
-    with tempfile.TemporaryDirectory() as where:
-        subprocess.run([sys.executable, os.path.join(hss.TOP, "checks/device.py"), where], check=True)
-        base = held(b"\x03" + hss.u(0, 4), where)[0]
-        for name, body in greatest_frames():
-            most, out = held(b"\x01" + hss.u(len(body), 4) + body, where)
-            print(f"{name}, {len(body)} bytes: {(most - base) / 1024 - len(body) / 2**20:.2f} MiB beside the frame, answered {out.hex()}")
-
-
-def held(given, where):
-    """The most memory that the agent held up to its answer, in KiB, and the answer."""
-    child = subprocess.Popen([AGENT, "run"], stdin=subprocess.PIPE, stdout=subprocess.PIPE, cwd=where)
-    child.stdin.write(given)
-    child.stdin.flush()
-    answer = child.stdout.read(6)
-    with open(f"/proc/{child.pid}/status") as status:
-        most = next(int(line.split()[1]) for line in status if line.startswith("VmHWM"))
-    child.stdin.close()
-    child.wait()
-    return most, answer
-
-
 if __name__ == "__main__":
     if not os.path.exists(hss.PROGRAM):
         sys.exit("rt ci has left no crates/benchmarks/out/benchmarks")
@@ -187,4 +154,3 @@ if __name__ == "__main__":
     signatures(cost)
     frames()
     appends()
-    memory()
