@@ -10,7 +10,7 @@ use crate::refusal::Refusal;
 use crate::reply::Reply;
 use crate::response::respond;
 use base_types::{Octets, OrMemory};
-use component_store::Config;
+use device_config::Config;
 use cose_core::Signed;
 use std::alloc::Global;
 use std::marker::Model;
@@ -29,7 +29,7 @@ pub struct Agent {
 }
 
 impl Model for Agent {
-    ghost use Rattle.component_store.specs.declared.config.Config.{Config};
+    ghost use Rattle.device_config.specs.declared.config.Config.{Config};
 
     ghost Value = { Config };
 

@@ -2,7 +2,7 @@ mod vectors;
 
 use crate::{Agent, Event, event_of, one_reply};
 use base_types::Octets;
-use component_store::Config;
+use device_config::Config;
 use std::alloc::Global;
 use std::test::Fail;
 use vectors::{AUTHORED, CONFIG, EMPTY, QUESTION, TOKENLESS, UPDATE};

@@ -6,7 +6,7 @@ use Rattle.std.proofs.Math.Seq.{take-append-add}
 use Rattle.std.specs.List.{All, flat_map}
 use Rattle.outside_core.specs.Stream.{Stream}
 use Rattle.trust_anchors.specs.declared.anchors.Anchors.{Anchors}
-use Rattle.component_store.specs.declared.config.Config.{Config}
+use Rattle.device_config.specs.declared.config.Config.{Config}
 use Rattle.frames.specs.Frames.{Frame, frame_bytes, four_bytes}
 use Rattle.agent_core.specs.Events.{event_in}
 use Rattle.agent_core.specs.Answers.{Answers, Replies}

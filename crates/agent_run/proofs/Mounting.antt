@@ -5,9 +5,9 @@ use Rattle.std.proofs.lemmas.List.Elements.{All-nil}
 use Rattle.outside_core.specs.Stream.{Stream}
 use Rattle.board_core.specs.Contents.{View, Same}
 use Rattle.trust_anchors.specs.declared.anchors.Anchors.{Anchors}
-use Rattle.component_store.specs.declared.config.Config.{Config}
-use Rattle.component_store.specs.Image.{IsImage}
-use Rattle.component_store.proofs.Images.{one_image}
+use Rattle.device_config.specs.declared.config.Config.{Config}
+use Rattle.device_config.specs.Image.{IsImage}
+use Rattle.device_config.proofs.Images.{one_image}
 use Rattle.frames.specs.Reading.{IsFrame}
 use Rattle.agent_run.specs.Outcome.{Ran, RanOver, Outcome}
 use Rattle.agent_run.specs.declared.status.Status.{Status}

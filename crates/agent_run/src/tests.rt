@@ -3,7 +3,7 @@ mod vectors;
 use crate::{Status, run_agent};
 use base_types::{FRAME_IN_LIMIT, List, Octets};
 use board_core::MemoryBoard;
-use component_store::{Config, image_of};
+use device_config::{Config, image_of};
 use std::alloc::Global;
 use std::test::Fail;
 use std::thread::Threads;

@@ -1,10 +1,10 @@
 use Rattle.std.proofs.Common.{Err, lit<, refl, subst, sym}
 use Rattle.base_types.specs.declared.limits.TheConstants.{FRAME_IN_LIMIT, INPUT_LIMIT}
-use Rattle.component_store.specs.declared.config.Config.{Config}
-use Rattle.component_store.specs.declared.fault.MountFault.{MountFault}
-use Rattle.component_store.specs.declared.fault.MountFault.TheVariants as faults
-use Rattle.component_store.specs.Image.{IsImage}
-use Rattle.component_store.specs.Loading.{Loaded}
+use Rattle.device_config.specs.declared.config.Config.{Config}
+use Rattle.device_config.specs.declared.fault.MountFault.{MountFault}
+use Rattle.device_config.specs.declared.fault.MountFault.TheVariants as faults
+use Rattle.device_config.specs.Image.{IsImage}
+use Rattle.device_config.specs.Loading.{Loaded}
 use Rattle.agent_run.specs.declared.status.Status.TheVariants as statuses
 use Rattle.agent_run.proofs.Exactly.{exactly}
 use Rattle.agent_run.proofs.Caused.{loaded, unloaded, blames_nothing}

@@ -1,6 +1,0 @@
-use Rattle.std.proofs.Common.{◌≡◌, drop}
-use Rattle.component_store.specs.Zeros.{all_zeros}
-use Rattle.component_store.proofs.head.are_zeros.Given as goal
-
-abbrev pub invariant-loop-byte : goal.invariant-loop-byte
-invariant-loop-byte l = all_zeros (drop l.byte-index l.bytes) ≡ all_zeros l.bytes

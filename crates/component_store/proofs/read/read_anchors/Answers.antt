@@ -1,5 +1,0 @@
-use Rattle.component_store.proofs.Readers.{anchors_refused}
-use Rattle.component_store.proofs.read.read_anchors.Goals as goal
-
-pub returns-in-Err : goal.returns-in-Err
-returns-in-Err c = rw c.fault_of.ensures (anchors_refused c.args.item.now c.in-Err.fault c.in-Err.ensures.only)

@@ -1,6 +1,0 @@
-ghost use Rattle.component_store.specs.Image.{OneImage};
-
-/// An image is that of one configuration: no two have it as theirs.
-pub fn one_image()
-    ensures { OneImage }
-{}
