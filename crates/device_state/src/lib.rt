@@ -1,0 +1,15 @@
+//! What a device keeps behind its configuration: which leaves of its key are used, the manifests that
+//! it has or had, the components of each, and the trust anchors that an update gave it.
+//!
+//! `specs/State` says what a state is, what a change makes of it and which states are valid. All states
+//! that are equal are equal values: the manifests stand in ascending order of their identifiers, and so
+//! do the components of each.
+#![tactic(auto)]
+
+mod change;
+mod heads;
+mod rows;
+
+pub use change::Change;
+pub use heads::{PartHead, RowHead};
+pub use rows::{ComponentRow, ManifestRow};
