@@ -1,10 +1,10 @@
 -- Pieces written one behind the other spell the evidence.
-use Rattle.std.proofs.Common.{rules, ◌≡◌, ℕ, ◌<◌, ◌^◌, List, [], ◌∷◌, ◌++◌, length, arith}
+use Rattle.std.proofs.Common.{◌≡◌, ℕ, ◌<◌, ◌^◌, List, [], ◌∷◌, ◌++◌, length, arith}
 use Rattle.std.proofs.lemmas.List.{append-nil, append_assoc}
 use Rattle.base_types.specs.Bytes.{IsBytes}
 use Rattle.cbor_heads.specs.Head.{head}
 use Rattle.cbor_core.specs.declared.item.Item.TheVariants as i
-use Rattle.cbor_core.specs.Spelling.{spelling, IsProper, Spells}
+use Rattle.cbor_core.specs.Spelling.{IsProper, Spells}
 use Rattle.cbor_core.proofs.Public.KeyOrder.{layers}
 use Rattle.cbor_core.proofs.Public.Spell.{spelling_Unsigned, spelling_Bytes, spelling_Array}
 use Rattle.cbor_core.proofs.Public.Ranges.{number_ranges, string_ranges, array_ranges}

@@ -48,6 +48,6 @@ fn evidence_is_who_a_device_is_and_what_it_was_asked(rt: HostRuntime) -> Result<
     let want = [
         0x85, 0x01, 0x41, 0x64, 0x41, 0xaa, 0x41, 0xbb, 0x48, 1, 2, 3, 4, 5, 6, 7, 8,
     ];
-    assert_eq!(rt; evidence.as_slice(), &want);
+    assert_eq!(rt; evidence.as_slice(), want.as_slice());
     Ok(())
 }
