@@ -41,6 +41,24 @@ module _ {X : Type 0} (B A : X → Type 0) where
   first_one apart (x ∷ xs) (suc j) zero one two = absurd (apart x one.0 two)
   first_one apart (x ∷ xs) (suc j) (suc k) one two = ap suc (first_one apart xs j k one.1 two.1)
 
+  -- the first that meets A meets what all of A meet
+  pub first_wider : (C : X → Type 0) → ((x : X) → A x → C x) → (xs : List X) (k : ℕ) → FirstAt B A xs k → FirstAt B C xs k
+  first_wider C wider [] k first = first
+  first_wider C wider (x ∷ xs) zero first = wider x first
+  first_wider C wider (x ∷ xs) (suc k) first = (first.0, first_wider C wider xs k first.1)
+
+  -- what the element at the first place has beside it
+  pub first_with : {Y : Type 0} (C : Y → X → Type 0) → ((x : X) → A x → (y : Y) × C y x) → (xs : List X) (k : ℕ) → FirstAt B A xs k → (y : Y) × FirstAt B (C y) xs k
+  first_with C with [] k first = absurd first
+  first_with C with (x ∷ xs) zero first = with x first
+  first_with C with (x ∷ xs) (suc k) first = let later = first_with C with xs k first.1 in (later.0, (first.0, later.1))
+
+  -- the element at a place that is the first of two kinds
+  pub first_both : (C : X → Type 0) (xs : List X) (k : ℕ) → FirstAt B A xs k → FirstAt B C xs k → (x : X) × A x × C x
+  first_both C [] k one two = absurd one
+  first_both C (x ∷ xs) zero one two = (x, one, two)
+  first_both C (x ∷ xs) (suc k) one two = first_both C xs k one.1 two.1
+
   -- each element meets one of the two, so one is the first, or there is none
   pub first_or_all : (xs : List X) → AllByRecursion (λ x. A x ⊎ B x) xs → ((at : ℕ) × FirstAt B A xs at) ⊎ AllByRecursion B xs
   first_or_all [] all = inr tt

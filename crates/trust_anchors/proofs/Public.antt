@@ -1,2 +1,3 @@
 pub mod OneAnchors
 pub mod Signers
+pub mod Blocks

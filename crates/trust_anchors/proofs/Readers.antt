@@ -12,10 +12,7 @@ use Rattle.trust_anchors.specs.declared.role.Role.{Role}
 use Rattle.trust_anchors.specs.declared.role.Role.TheVariants as role
 use Rattle.trust_anchors.specs.declared.fault.AnchorFault.{AnchorFault}
 use Rattle.trust_anchors.specs.declared.fault.AnchorFault.TheVariants as faults
-use Rattle.trust_anchors.specs.declared.fault.SignFault.{SignFault}
-use Rattle.trust_anchors.specs.declared.fault.SignFault.TheVariants as sign
 use Rattle.trust_anchors.specs.Anchors.{IsString, Wraps, IsGood, IsBad, AnchorsIs, IsOver, IsBadAt, RefusedAs, IsFound, IsRefused, KeysReadAs, AreStrings, AreFew, RolesReadAs}
-use Rattle.trust_anchors.specs.Verified.{Signs, FirstSigner, IsSigner, SearchedAs}
 use Rattle.trust_anchors.proofs.Lists.{first_none, first_one, zip_one, zip_each, zip_length}
 use Rattle.trust_anchors.proofs.Keys.{one_wrapped, good_not_bad}
 

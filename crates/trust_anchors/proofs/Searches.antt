@@ -1,5 +1,5 @@
 -- What the search for a signer says.
-use Rattle.std.proofs.Common.{◌≡◌, ◌⊎◌, ℕ, List, sym, subst, inl, inr}
+use Rattle.std.proofs.Common.{◌≡◌, ℕ, List, sym, subst, inl, inr}
 use Rattle.std.specs.Prelude.{Result, Ok, Err, IfOk}
 use Rattle.trust_anchors.specs.declared.fault.SignFault.{SignFault}
 use Rattle.trust_anchors.specs.declared.fault.SignFault.TheVariants as sign

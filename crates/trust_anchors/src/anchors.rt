@@ -124,8 +124,8 @@ impl Anchors {
         )
     }
 
-    /// The same of a message where it lies: nothing of it is copied, and no more memory is taken than 31
-    /// bytes.
+    /// The same of a message where it lies. Neither it nor the payload is copied: what is written are the
+    /// heads round its protected bytes and the payload, at most 31 bytes in two buffers.
     pub fn verified_signed(
         &self,
         alloc: Global,

@@ -2,6 +2,7 @@
 #![tactic(auto)]
 
 mod anchors;
+mod blocks;
 mod fault;
 mod laws;
 mod reading;

@@ -9,6 +9,24 @@ use std::alloc::Global;
 use std::test::Fail;
 use vectors::{FIRST, SECOND, SIGNATURE, THIRD};
 
+// What stands before the signature in a COSE_Sign1 of it: the headers, and null for a payload.
+const DETACHED: [u8; 11] = [
+    0x84, 0x44, 0xa1, 0x01, 0x38, 0x2d, 0xa0, 0xf6, 0x59, 0x05, 0x10,
+];
+
+// The same with the tag 18.
+const TAGGED: [u8; 12] = [
+    0xd2, 0x84, 0x44, 0xa1, 0x01, 0x38, 0x2d, 0xa0, 0xf6, 0x59, 0x05, 0x10,
+];
+
+// The same with the payload that was signed.
+const WITH_PAYLOAD: [u8; 12] = [
+    0x84, 0x44, 0xa1, 0x01, 0x38, 0x2d, 0xa0, 0x41, 0x05, 0x59, 0x05, 0x10,
+];
+
+// No item begins with it (RFC 8949, appendix B: a break stands inside an item alone).
+const NO_CBOR: [u8; 1] = [0xff];
+
 fn key(bytes: &[u8]) -> Result<HssPublic, Fail> {
     Ok(HssPublic::read(bytes).ok_or("no public key")?)
 }
@@ -54,6 +72,60 @@ fn finds_the_signer(rt: HostRuntime) -> Result<(), Fail> {
     assert!(rt; other == Err(SignFault::NotSigned));
     let author = anchors.verified(alloc, Role::Author, &message, &[0x05]);
     assert!(rt; author == Err(SignFault::NotSigned));
+    Ok(())
+}
+
+// Three authors, of whom the second made the signature, or the same as managers.
+fn anchors_of(alloc: Global, role: Role) -> Result<Anchors, Fail> {
+    let Anchors { manager, author } = three_managers(alloc)?;
+    Ok(match role {
+        Role::Manager => Anchors { manager, author },
+        Role::Author => Anchors {
+            manager: author,
+            author: manager,
+        },
+    })
+}
+
+// The block, and the anchor of the authors, that is told of blocks: each the signature behind a front.
+fn author_of(
+    alloc: Global,
+    signer: Role,
+    fronts: &[&[u8]],
+    payload: &[u8],
+) -> Result<Result<(usize, usize), SignFault>, Fail> {
+    let mut blocks = List::new(alloc);
+    for front in fronts {
+        let mut block = Octets::from_slice(alloc, front)?;
+        block.extend(&SIGNATURE)?;
+        blocks.push(block)?;
+    }
+    let anchors = anchors_of(alloc, signer)?;
+    Ok(anchors.verified_any(alloc, Role::Author, &blocks, payload))
+}
+
+/// The first block that an author signed is told, with that author; what is no block is passed over.
+#[test]
+fn finds_the_first_block(rt: HostRuntime) -> Result<(), Fail> {
+    let alloc = rt.alloc();
+    let none = Err(SignFault::NotSigned);
+    let author = Role::Author;
+    // whose key signed, the blocks, the payload, and the answer
+    let table: [(Role, &[&[u8]], u8, Result<(usize, usize), SignFault>); 9] = [
+        (author, &[], 5, none),
+        (author, &[&NO_CBOR], 5, none),
+        (author, &[&WITH_PAYLOAD], 5, none),
+        (author, &[&DETACHED], 5, Ok((0, 1))),
+        (author, &[&NO_CBOR, &WITH_PAYLOAD, &TAGGED], 5, Ok((2, 1))),
+        (author, &[&DETACHED, &TAGGED], 5, Ok((0, 1))),
+        (author, &[&NO_CBOR, &TAGGED, &DETACHED], 5, Ok((1, 1))),
+        (author, &[&DETACHED, &TAGGED], 6, none),
+        (Role::Manager, &[&DETACHED], 5, none),
+    ];
+    for (at, (signer, fronts, payload, want)) in table.iter().enumerate() {
+        let found = author_of(alloc, *signer, fronts, &[*payload])?;
+        assert_eq!(rt; found, *want, "row {at}");
+    }
     Ok(())
 }
 

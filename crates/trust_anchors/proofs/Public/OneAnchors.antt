@@ -1,5 +1,5 @@
 -- Items are one set of anchors, or have one refusal, and never both.
-use Rattle.std.proofs.Common.{◌≡◌, ◌⊎◌, ℕ, List, Result, Ok, Err, sym, ap, subst, inl, inr}
+use Rattle.std.proofs.Common.{◌≡◌, List, Result, Ok, Err, sym, ap, subst, inl, inr}
 use Rattle.cbor_core.specs.declared.item.Item.{Item}
 use Rattle.cbor_core.specs.Spelling.{HasRanges}
 use Rattle.cose_core.specs.Law.{ExactlyOne}
@@ -8,7 +8,7 @@ use Rattle.trust_anchors.specs.declared.fault.AnchorFault.{AnchorFault}
 use Rattle.trust_anchors.specs.declared.fault.AnchorFault.TheVariants as faults
 use Rattle.trust_anchors.specs.Anchors.{AnchorsIs, RefusedAs, RolesReadAs}
 use Rattle.trust_anchors.specs.Law.{OneAnchors}
-use Rattle.trust_anchors.proofs.Readers.{two, NotTwo, is_found, is_bad, is_only, is_refused, none_only, none_refused, none_bad, roles_of}
+use Rattle.trust_anchors.proofs.Readers.{two, NotTwo, is_found, is_bad, is_only, is_refused, none_refused, none_bad, roles_of}
 use Rattle.trust_anchors.proofs.There.{answered, two_or_not, parts_in_range}
 
 -- an item is one set of anchors at most
