@@ -1,0 +1,11 @@
+pub mod Links
+pub mod LinkLaws
+pub mod Ends
+pub mod Fields
+pub mod Found
+pub mod Parts
+pub mod Verdicts
+pub mod Requests
+pub mod Responses
+pub mod Writing
+pub mod Laws

@@ -1,0 +1,34 @@
+//! HTTP/1.1 messages as bytes over a connection (RFC 9110 and RFC 9112): a request or a response is
+//! read off a connection, and no byte behind it; and one is written.
+//!
+//! Where a head ends is decided here, at its first empty line. A head that has ended is judged by the
+//! grammar of `httparse`. Each connection serves one message in each direction.
+#![tactic(auto)]
+
+mod announced;
+mod fields;
+mod laws;
+mod link;
+mod memory_link;
+mod method;
+mod parts;
+mod request;
+mod response;
+mod routes;
+#[cfg(test)]
+mod tests;
+mod verdict;
+mod write;
+
+pub use announced::Announced;
+pub use fetch_uri::{HOST_LIMIT, URI_LIMIT, Uri, is_uri, read_uri};
+pub use fields::FIELDS_LIMIT;
+pub use laws::one_request;
+pub use link::Link;
+pub use memory_link::MemoryLink;
+pub use method::Method;
+pub use parts::HEAD_LIMIT;
+pub use request::{Asked, WireFault, read_request};
+pub use response::{Answered, ResponseFault, read_response};
+pub use routes::Routes;
+pub use write::{SendWire, write_request, write_response};
