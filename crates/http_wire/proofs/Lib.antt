@@ -2,3 +2,5 @@ pub mod Heads
 pub mod Values
 pub mod Digits
 pub mod Judging
+pub mod Joining
+pub mod Media

@@ -8,4 +8,5 @@ pub mod Verdicts
 pub mod Requests
 pub mod Responses
 pub mod Writing
+pub mod Behind
 pub mod Laws

@@ -1,5 +1,5 @@
 -- What a connection asks.
-use Rattle.std.specs.Prelude.{◌≡◌, ◌<◌, ◌⊎◌, ◌++◌, ℕ, List, length, Result, Ok, Err}
+use Rattle.std.specs.Prelude.{◌≡◌, ◌<◌, ◌⊎◌, ◌++◌, ℕ, List, [], length, Result, Ok, Err}
 use Rattle.outside_core.specs.Stream.{Stream, Took}
 use Rattle.http_wire.specs.Parts.{IsHead, IsPartHead, TookSome, TookLast, TookHeadless}
 use Rattle.http_wire.specs.Verdicts.{IsJudged}

@@ -1,5 +1,5 @@
 -- What is to be done with the head of a request, and what the head of a response announces.
-use Rattle.std.specs.Prelude.{◌≡◌, ◌≤◌, ◌⊎◌, ℕ, Bool, true, false, ◌&&◌, ◌||◌, ◌==◌, not, nat_lt, List, [], ◌∷◌, length, map, codes, if◌then◌else◌, Option, Some, None}
+use Rattle.std.specs.Prelude.{◌≡◌, ◌≤◌, ◌⊎◌, ℕ, Bool, true, false, ◌&&◌, ◌==◌, not, nat_lt, List, [], ◌∷◌, length, map, codes, if◌then◌else◌, Option, Some, None}
 use Rattle.std.specs.List.{list_any}
 use Rattle.std.specs.Char.{to_ascii_lowercase}
 use Rattle.std.specs.Str.{bytes_eq, is_utf8}
@@ -39,17 +39,12 @@ post_verdict (Said size) parts =
 abbrev pub is_listed : List ℕ → List (List ℕ) → Bool
 is_listed target paths = list_any (λ path. bytes_eq path target) paths
 
--- What a target is to a method, by whether it is the target of POST, whether it is one of those of GET, and whether the method is POST or GET. One that were both takes no method.
-abbrev pub route_by : Bool → Bool → Bool → Bool → Route
-route_by false false posts gets = Unknown
-route_by true false posts gets = if posts then Post else OtherMethod
-route_by false true posts gets = if gets then Get else OtherMethod
-route_by true true posts gets = OtherMethod
-
--- where a request goes
+-- Where a request goes, by its target and its method. The target of POST takes no other method, also where it is listed among those of GET.
 abbrev pub route_of : Routes → List ℕ → List ℕ → Route
 route_of routes method target =
-    route_by (bytes_eq target routes.post) (is_listed target routes.gets) (bytes_eq method (codes "POST")) (bytes_eq method (codes "GET"))
+    if bytes_eq target routes.post then (if bytes_eq method (codes "POST") then Post else OtherMethod)
+    else (if is_listed target routes.gets then (if bytes_eq method (codes "GET") then Get else OtherMethod)
+    else Unknown)
 
 -- the rows behind the first, of which the first that holds counts; what a GET says of a body is passed over
 abbrev pub verdict_by : Route → List ℕ → BodyLength → List Part → Verdict
@@ -81,10 +76,14 @@ IsJudged routes head v =
     ((h : RequestHead) × IsRequest head h × (v ≡ verdict routes h.method h.target (map name_and_value h.fields)))
     ⊎ (((h : RequestHead) → ¬ (IsRequest head h)) × (v ≡ Refused 400))
 
--- the first media type without its parameters, in lower case; empty where there is none or it is no UTF-8
+-- a media type in lower case; empty where it is no UTF-8
+abbrev pub lower_media : List ℕ → List ℕ
+lower_media media = if is_utf8 media then map to_ascii_lowercase media else []
+
+-- the first of the media types without its parameters, in lower case; empty where there is none
 abbrev pub media_of : List (List ℕ) → List ℕ
 media_of [] = []
-media_of (value ∷ more) = let media = without_parameters value in if is_utf8 media then map to_ascii_lowercase media else []
+media_of (value ∷ more) = lower_media (without_parameters value)
 
 -- a response of status 204 has no body, whatever length it says (RFC 9110, section 15.3.5)
 abbrev pub body_size : ℕ → BodyLength → Option ℕ

@@ -1,6 +1,7 @@
 // A request off a connection.
 ghost use Rattle.std.specs.Prelude.{◌≡◌};
 ghost use Rattle.base_types.specs.Causes.{CausedBy};
+ghost use Rattle.http_wire.specs.Behind.{AskedBehind};
 ghost use Rattle.http_wire.specs.Requests.{Requested};
 
 use crate::link::Link;
@@ -76,11 +77,29 @@ pub fn read_request<L: Link>(
     ensures cause { CausedBy (result ≡ Err WireFault.LinkFault) (L.faults link.old) (L.faults link.new) }
     ensures keeps { L.keeps link.old link.new }
 {
-    let Some(head) = read_head(alloc, link)? else {
-        return Err(WireFault::Refuse(400));
-    };
-    match judge(alloc, routes, head.as_slice()) {
-        Ok(Verdict::Takes(size)) => Ok(Asked::Post(read_body(alloc, link, size as usize)?)),
+    match read_head(alloc, link) {
+        Ok(Some(head)) => behind_head(alloc, link, routes, head.as_slice()),
+        Ok(None) => Err(WireFault::Refuse(400)),
+        Err(fault) => Err(WireFault::from(fault)),
+    }
+}
+
+// Takes what a head asks for.
+fn behind_head<L: Link>(
+    alloc: Global,
+    link: &mut L,
+    routes: &Routes,
+    head: &[u8],
+) -> Result<Asked, WireFault>
+    ensures request { L.told → AskedBehind routes.now head.now (L.stream link.old) (L.stream link.new) result }
+    ensures cause { CausedBy (result ≡ Err WireFault.LinkFault) (L.faults link.old) (L.faults link.new) }
+    ensures keeps { L.keeps link.old link.new }
+{
+    match judge(alloc, routes, head) {
+        Ok(Verdict::Takes(size)) => match read_body(alloc, link, size as usize) {
+            Ok(body) => Ok(Asked::Post(body)),
+            Err(fault) => Err(WireFault::from(fault)),
+        },
         Ok(Verdict::Gets(path)) => Ok(Asked::Get(path)),
         Ok(Verdict::Refused(status)) => Err(WireFault::Refuse(status)),
         Err(_) => Err(WireFault::NoMemory),

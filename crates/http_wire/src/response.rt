@@ -3,9 +3,9 @@ ghost use Rattle.std.specs.Prelude.{◌≡◌, map, IfOk, codes};
 ghost use Rattle.base_types.specs.Causes.{CausedBy};
 ghost use Rattle.httparse.specs.Borrowed.{header_parts};
 ghost use Rattle.http_wire.specs.Fields.{values};
-ghost use Rattle.http_wire.specs.Found.{IsFound};
+ghost use Rattle.http_wire.specs.Behind.{AnsweredBehind, Fulfilled};
 ghost use Rattle.http_wire.specs.Responses.{Responded};
-ghost use Rattle.http_wire.specs.Verdicts.{Announces, announcement, media_of, body_size};
+ghost use Rattle.http_wire.specs.Verdicts.{Announces, announcement, lower_media, media_of, body_size};
 
 use crate::announced::Announced;
 use crate::fields::{
@@ -62,17 +62,24 @@ impl From<PartFault> for ResponseFault {
     }
 }
 
-// The first media type that the fields say, without its parameters and in lower case.
-fn media_of(alloc: Global, fields: &[Header<'_>]) -> OrMemory<Utf8>
-    ensures { IfOk result (λ media. media ≡ media_of (values (codes "content-type") (map header_parts fields.now))) }
+// A media type in lower case.
+fn lower_media(alloc: Global, media: &[u8]) -> OrMemory<Utf8>
+    ensures { IfOk result (λ it. it ≡ lower_media media.now) }
 {
-    let value = match values_of(fields, "content-type") {
-        Values::Nowhere => return Utf8::from_str(alloc, ""),
-        Values::Once(value) | Values::Again(value) => value,
-    };
-    match str::from_utf8(without_parameters(value)) {
-        Ok(media) => Ok(Utf8::from_string(media.to_ascii_lowercase(alloc)?)),
+    match str::from_utf8(media) {
+        Ok(text) => Ok(Utf8::from_string(text.to_ascii_lowercase(alloc)?)),
         Err(_) => Utf8::from_str(alloc, ""),
+    }
+}
+
+// The first media type that the fields say, without its parameters.
+fn media_of(alloc: Global, fields: &[Header<'_>]) -> OrMemory<Utf8>
+    ensures { IfOk result (λ it. it ≡ media_of (values (codes "content-type") (map header_parts fields.now))) }
+{
+    match values_of(fields, "content-type") {
+        Values::Nowhere => Utf8::from_str(alloc, ""),
+        Values::Once(value) => lower_media(alloc, without_parameters(value)),
+        Values::Again(value) => lower_media(alloc, without_parameters(value)),
     }
 }
 
@@ -149,25 +156,56 @@ pub fn read_response<L: Link>(
     ensures cause { CausedBy (result ≡ Err ResponseFault.LinkFault) (L.faults link.old) (L.faults link.new) }
     ensures keeps { L.keeps link.old link.new }
 {
-    let Some(head) = read_head(alloc, link)? else {
-        return Err(ResponseFault::BadHead);
-    };
+    match read_head(alloc, link) {
+        Ok(Some(head)) => behind_head(alloc, link, limit, head.as_slice()),
+        Ok(None) => Err(ResponseFault::BadHead),
+        Err(fault) => Err(ResponseFault::from(fault)),
+    }
+}
+
+// Takes what a head announces.
+fn behind_head<L: Link>(
+    alloc: Global,
+    link: &mut L,
+    limit: u64,
+    head: &[u8],
+) -> Result<Answered, ResponseFault>
+    ensures response { L.told → AnsweredBehind limit head.now (L.stream link.old) (L.stream link.new) result }
+    ensures cause { CausedBy (result ≡ Err ResponseFault.LinkFault) (L.faults link.old) (L.faults link.new) }
+    ensures keeps { L.keeps link.old link.new }
+{
+    match announced(alloc, head) {
+        Ok(Some(it)) => fulfil(alloc, link, limit, it),
+        Ok(None) => Err(ResponseFault::BadHead),
+        Err(_) => Err(ResponseFault::NoMemory),
+    }
+}
+
+// Takes the body that was announced, unless it is too long.
+fn fulfil<L: Link>(
+    alloc: Global,
+    link: &mut L,
+    limit: u64,
+    it: Announced,
+) -> Result<Answered, ResponseFault>
+    ensures response { L.told → Fulfilled limit it (L.stream link.old) (L.stream link.new) result }
+    ensures cause { CausedBy (result ≡ Err ResponseFault.LinkFault) (L.faults link.old) (L.faults link.new) }
+    ensures keeps { L.keeps link.old link.new }
+{
     let Announced {
         status,
         media,
         size,
-    } = match announced(alloc, head.as_slice()) {
-        Ok(Some(it)) => it,
-        Ok(None) => return Err(ResponseFault::BadHead),
-        Err(_) => return Err(ResponseFault::NoMemory),
-    };
+    } = it;
     if size > limit {
         return Err(ResponseFault::TooLong);
     }
-    let body = read_body(alloc, link, size as usize)?;
-    Ok(Answered {
-        status,
-        media,
-        body,
-    })
+    match read_body(alloc, link, size as usize) {
+        Ok(body) => Ok(Answered {
+            status,
+            media,
+            body,
+        }),
+        Err(fault) => Err(ResponseFault::from(fault)),
+    }
 }

@@ -4,6 +4,8 @@ ghost use Rattle.http_wire.specs.Verdicts.{is_listed, route_of};
 use base_types::{List, Utf8};
 
 /// The targets that are served.
+///
+/// The target of POST takes no GET, also where it is listed among those of GET.
 #[derive(Debug, Drop)]
 pub struct Routes {
     /// The target that takes a POST.
@@ -34,12 +36,19 @@ fn is_listed(target: &str, paths: &List<Utf8>) -> bool
 pub fn route_of(routes: &Routes, method: &str, target: &str) -> Route
     ensures { result ≡ route_of routes.now method.now target.now }
 {
-    let is_post = target == routes.post.as_str();
-    let is_get = is_listed(target, &routes.gets);
-    match (is_post, is_get) {
-        (false, false) => Route::Unknown,
-        (true, false) if method == "POST" => Route::Post,
-        (false, true) if method == "GET" => Route::Get,
-        _ => Route::OtherMethod,
+    if target == routes.post.as_str() {
+        if method == "POST" {
+            Route::Post
+        } else {
+            Route::OtherMethod
+        }
+    } else if is_listed(target, &routes.gets) {
+        if method == "GET" {
+            Route::Get
+        } else {
+            Route::OtherMethod
+        }
+    } else {
+        Route::Unknown
     }
 }
