@@ -1,7 +1,7 @@
 -- Heads that end, and bytes in which none does.
-use Rattle.std.proofs.Common.{◌≡◌, ◌+◌, ◌<◌, ◌≤◌, ℕ, List, [], ◌∷◌, ◌++◌, length, refl, sym, ap, ◌∙◌, subst, inl, inr, arith, append_assoc, append-nil, length-append}
+use Rattle.std.proofs.Common.{◌≡◌, ◌<◌, ℕ, List, [], ◌∷◌, ◌++◌, length, sym, ap, ◌∙◌, subst, inl, inr, arith, append_assoc, append-nil, length-append}
 use Rattle.std.proofs.lemmas.List.{same_from_push}
-use Rattle.http_wire.specs.Ends.{Ends, EndsInEmptyLine, HasNoEnd, EndsHead}
+use Rattle.http_wire.specs.Ends.{EndsInEmptyLine, HasNoEnd, EndsHead}
 
 -- a list is empty, or has a last element
 pub data Backwards : List ℕ → Type 0 where
@@ -11,28 +11,28 @@ pub data Backwards : List ℕ → Type 0 where
 pub backwards : (xs : List ℕ) → Backwards xs
 backwards [] = none
 backwards (x ∷ xs) = elim (backwards xs) as (λ ys _. Backwards (x ∷ ys)) [
-  none ↦ last [] x
+  | none ↦ last [] x
   | last ys y ↦ last (x ∷ ys) y
 ]
 
 -- no bytes end nothing
 pub none_ends : HasNoEnd []
 none_ends front more e b = elim b [
-  inl x ↦ absurd (omega (arith, ap length e, ap length x.1, length-append front more, length-append x.0 (10 ∷ 10 ∷ [])))
+  | inl x ↦ absurd (omega (arith, ap length e, ap length x.1, length-append front more, length-append x.0 (10 ∷ 10 ∷ [])))
   | inr x ↦ absurd (omega (arith, ap length e, ap length x.1, length-append front more, length-append x.0 (10 ∷ 13 ∷ 10 ∷ [])))
 ]
 
 -- one byte more, where all that came does not end in an empty line
 pub no_end_more : (bytes : List ℕ) (b : ℕ) → HasNoEnd bytes → ¬ (EndsInEmptyLine (bytes ++ b ∷ [])) → HasNoEnd (bytes ++ b ∷ [])
 no_end_more bytes b so_far not_now front more e = elim (backwards more) as (λ m _. bytes ++ b ∷ [] ≡ front ++ m → ¬ (EndsInEmptyLine front)) [
-  none ↦ λ is. subst (λ (l : List ℕ). ¬ (EndsInEmptyLine l)) (is ∙ append-nil front) not_now
+  | none ↦ λ is. subst (λ (l : List ℕ). ¬ (EndsInEmptyLine l)) (is ∙ append-nil front) not_now
   | last ys y ↦ λ is. so_far front ys (same_from_push bytes (front ++ ys) b y (is ∙ sym (append_assoc front ys (y ∷ [])))).0
 ] e
 
 -- a shorter front of bytes with one more is a front of the bytes
 pub shorter_front : (bytes : List ℕ) (b : ℕ) (front more : List ℕ) → 0 < length more → bytes ++ b ∷ [] ≡ front ++ more → (rest : List ℕ) × (bytes ≡ front ++ rest)
 shorter_front bytes b front more some e = elim (backwards more) as (λ m _. 0 < length m → bytes ++ b ∷ [] ≡ front ++ m → (rest : List ℕ) × (bytes ≡ front ++ rest)) [
-  none ↦ λ s is. absurd (omega (arith, s))
+  | none ↦ λ s is. absurd (omega (arith, s))
   | last ys y ↦ λ s is. (ys, (same_from_push bytes (front ++ ys) b y (is ∙ sym (append_assoc front ys (y ∷ [])))).0)
 ] some e
 

@@ -1,9 +1,9 @@
 -- A head, and what comes behind it, are one request or response.
-use Rattle.std.proofs.Common.{◌≡◌, ◌<◌, ◌≤◌, ℕ, List, [], ◌++◌, length, refl, sym, ap, ◌∙◌, subst, inl, inr, arith, append-nil, Option, Some, None, Result, Ok, Err}
+use Rattle.std.proofs.Common.{◌≡◌, ◌≤◌, ℕ, List, [], ◌++◌, length, refl, sym, subst, inl, inr, arith, append-nil, Some, Result, Ok, Err}
 use Rattle.outside_core.specs.Stream.{Stream, Took}
 use Rattle.frames.proofs.Public.Pieces.{took_both}
-use Rattle.http_wire.specs.Parts.{Heads, Bodies, TookSome, TookLast, TookHeadless, IsHead}
-use Rattle.http_wire.specs.Behind.{AskedBehind, CutBody, TookFewer, Fulfilled, AnsweredBehind}
+use Rattle.http_wire.specs.Parts.{Heads, Bodies, TookSome, TookLast, IsHead}
+use Rattle.http_wire.specs.Behind.{AskedBehind, Fulfilled, AnsweredBehind}
 use Rattle.http_wire.specs.Requests.{Requested, wire_fault}
 use Rattle.http_wire.specs.Responses.{Responded, response_fault}
 use Rattle.http_wire.specs.Verdicts.{IsJudged, Announces}

@@ -1,7 +1,7 @@
 -- What the parser's answer on a head that has ended says of it.
-use Rattle.std.proofs.Common.{◌≡◌, ◌≢◌, ◌+◌, ◌<◌, ◌≤◌, ℕ, List, [], ◌++◌, length, map, drop, refl, sym, ap, ◌∙◌, subst, inl, inr, arith, append-nil, length-append, Option, Some, Bor, Result, Ok, Err, IfOk}
+use Rattle.std.proofs.Common.{◌≡◌, ◌≢◌, ◌+◌, ◌<◌, ◌≤◌, ℕ, List, [], length, map, drop, sym, ap, ◌∙◌, subst, inl, arith, append-nil, length-append, Option, Some, Bor, Result, Ok, Err, IfOk}
 use Rattle.std.specs.Option.{option_copied}
-use Rattle.std.proofs.lemmas.List.{drop_all, length-map, nil_from_length}
+use Rattle.std.proofs.lemmas.List.{drop_all, length-map}
 use Rattle.httparse.specs.Borrowed.{header_parts, HoldsRequest, HoldsSomeRequest, HoldsResponse, HoldsSomeResponse}
 use Rattle.httparse.specs.Grammar.{RequestHead, ReadsRequest, print_request, HasNoRequest, ResponseHead, ReadsResponse, print_response, HasNoResponse, status_code}
 use Rattle.httparse.specs.Spans.{name_and_value, RequestOverflows, ResponseOverflows}

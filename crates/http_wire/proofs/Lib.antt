@@ -4,3 +4,4 @@ pub mod Digits
 pub mod Judging
 pub mod Joining
 pub mod Media
+pub mod Written

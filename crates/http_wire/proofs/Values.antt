@@ -1,9 +1,9 @@
 -- The values of the fields of a name, as far as a look has come.
-use Rattle.std.proofs.Common.{◌≡◌, ◌+◌, ◌<◌, ℕ, Bool, true, false, cond, List, [], ◌∷◌, ◌++◌, length, map, take, drop, get_or, refl, sym, ap, ◌∙◌, subst, arith, append_assoc, append-nil, take-append-drop, Option, Some, None, Bor}
+use Rattle.std.proofs.Common.{◌≡◌, ◌+◌, ◌<◌, ℕ, Bool, true, false, cond, List, [], ◌∷◌, ◌++◌, length, map, take, drop, get_or, refl, sym, ap, ◌∙◌, append_assoc, append-nil, take-append-drop, Option, Some, None, Bor}
 use Rattle.std.specs.List.{filter}
 use Rattle.std.specs.Char.{to_ascii_lowercase}
 use Rattle.std.proofs.lemmas.Slice.Eq.{bytes_eq-Decides}
-use Rattle.std.proofs.lemmas.List.{take_more, drop_more, map-append}
+use Rattle.std.proofs.lemmas.List.{take_more, map-append}
 use Rattle.httparse.specs.Borrowed.{header_parts}
 use Rattle.httparse.specs.declared.borrowed.Header.{Header}
 use Rattle.http_wire.specs.Fields.{Part, values, is_same_text}
@@ -79,8 +79,7 @@ pub more_again : (name : List ℕ) (fields : List Header) (i : ℕ) (d : Header)
     → (other : List ℕ) × (more : List (List ℕ)) × (values name (map header_parts fields) ≡ first ∷ other ∷ more)
 more_again name fields i d first h same so_far =
     let v = (get_or fields i d).value.now in
-    let rest = values name (map header_parts (drop (i + 1) fields)) in
-    (
+    let rest = values name (map header_parts (drop (i + 1) fields)) in (
       v,
       rest,
       values_split name fields (i + 1) ∙ ap (λ (l : List (List ℕ)). l ++ rest) (more_yes name fields i d h same ∙ ap (λ (l : List (List ℕ)). l ++ v ∷ []) so_far),

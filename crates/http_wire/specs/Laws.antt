@@ -2,14 +2,10 @@
 use Rattle.std.specs.Prelude.{◌≡◌, Result, Ok, Err}
 use Rattle.outside_core.specs.Stream.{Stream}
 use Rattle.http_wire.specs.Requests.{Requested}
-use Rattle.http_wire.specs.Responses.{Responded}
 use Rattle.http_wire.specs.declared.routes.Routes.{Routes}
 use Rattle.http_wire.specs.declared.request.Asked.{Asked}
 use Rattle.http_wire.specs.declared.request.WireFault.{WireFault}
 use Rattle.http_wire.specs.declared.request.WireFault.TheVariants as w
-use Rattle.http_wire.specs.declared.response.Answered.{Answered}
-use Rattle.http_wire.specs.declared.response.ResponseFault.{ResponseFault}
-use Rattle.http_wire.specs.declared.response.ResponseFault.TheVariants as r
 
 -- the answer follows from the input: no call of the outside failed, and memory was left
 abbrev pub IsFromInput : Result Asked WireFault → Type 0

@@ -12,10 +12,6 @@ use Rattle.http_wire.specs.declared.write.SendWire.TheVariants.{LinkFault, NoMem
 abbrev pub line_bytes : List ℕ → List ℕ
 line_bytes line = line ++ codes "\r\n"
 
--- the lines, and an empty one
-abbrev pub head_bytes : List (List ℕ) → List ℕ
-head_bytes lines = flat_map line_bytes lines ++ codes "\r\n"
-
 -- a name, `: ` and a value
 abbrev pub field_line : List ℕ → List ℕ → List ℕ
 field_line name value = name ++ codes ": " ++ value
@@ -29,32 +25,37 @@ media_lines media (byte ∷ more) = field_line (codes "Content-Type") media ∷ 
 abbrev pub length_line : List ℕ → List ℕ
 length_line body = field_line (codes "Content-Length") (decimal (length body))
 
--- the connection ends behind the message (RFC 9112, section 9.6)
-abbrev pub close_line : List ℕ
-close_line = field_line (codes "Connection") (codes "close")
+-- lines, and behind them one that says that the connection ends behind the message (RFC 9112, section 9.6), and an empty one
+abbrev pub closed : List ℕ → List ℕ
+closed lines = lines ++ line_bytes (field_line (codes "Connection") (codes "close")) ++ codes "\r\n"
+
+-- a head of these lines
+abbrev pub head_bytes : List (List ℕ) → List ℕ
+head_bytes lines = closed (flat_map line_bytes lines)
 
 -- the lines of a request to a host, which is given with its port
 abbrev pub request_lines : Method → List ℕ → List ℕ → List ℕ → List (List ℕ)
-request_lines Get host path body =
-    (codes "GET " ++ path ++ codes " HTTP/1.1") ∷ field_line (codes "Host") host ∷ close_line ∷ []
+request_lines Get host path body = (codes "GET " ++ path ++ codes " HTTP/1.1") ∷ field_line (codes "Host") host ∷ []
 request_lines Post host path body =
     ((codes "POST " ++ path ++ codes " HTTP/1.1") ∷ field_line (codes "Host") host
     ∷ field_line (codes "Accept") (codes "application/teep+cbor") ∷ [])
-    ++ media_lines (codes "application/teep+cbor") body ++ (length_line body ∷ close_line ∷ [])
+    ++ media_lines (codes "application/teep+cbor") body ++ (length_line body ∷ [])
 
 -- the lines on the length of a response's body: a 204 has none
 abbrev pub length_lines : ℕ → List ℕ → List (List ℕ)
 length_lines status body = if status == 204 then [] else (length_line body ∷ [])
 
 -- the phrase of a status, which is empty where it has none (RFC 9112, section 4)
-abbrev pub phrase_of : ℕ → List ℕ
+unfoldable pub phrase_of : ℕ → List ℕ
 phrase_of status = unwrap_or (reason_phrase status) []
+
+-- the first line of a response
+abbrev pub status_line : ℕ → List ℕ
+status_line status = codes "HTTP/1.1 " ++ decimal status ++ codes " " ++ phrase_of status
 
 -- the lines of a response
 abbrev pub response_lines : ℕ → List ℕ → List ℕ → List (List ℕ)
-response_lines status media body =
-    ((codes "HTTP/1.1 " ++ decimal status ++ codes " " ++ phrase_of status) ∷ [])
-    ++ media_lines media body ++ length_lines status body ++ (close_line ∷ [])
+response_lines status media body = (status_line status ∷ []) ++ media_lines media body ++ length_lines status body
 
 -- the bytes of a request
 abbrev pub request_bytes : Method → List ℕ → List ℕ → List ℕ → List ℕ

@@ -100,7 +100,13 @@ fn verdict_on(
     if is_bad(length) {
         return Ok(Verdict::Refused(400));
     }
-    verdict_by(alloc, route_of(routes, method, target), target, length, fields)
+    verdict_by(
+        alloc,
+        route_of(routes, method, target),
+        target,
+        length,
+        fields,
+    )
 }
 
 /// The verdict on a head that has ended. Refused for want of memory alone.

@@ -1,13 +1,14 @@
 // Requests and responses, onto a connection.
-ghost use Rattle.std.specs.Prelude.{◌≡◌, ◌++◌, [], codes, decimal, OnOk, IfOk};
+ghost use Rattle.std.specs.Prelude.{◌≡◌, ◌++◌, [], codes, OnOk};
 ghost use Rattle.std.specs.List.{flat_map};
-ghost use Rattle.base_types.specs.Causes.{CausedBy};
+ghost use Rattle.base_types.specs.Causes.{HasCause, CausedBy};
+ghost use Rattle.outside_core.specs.Stream.{Sends};
 ghost use Rattle.http.specs.StatusCode.{IsStatusCode};
-ghost use Rattle.http_wire.specs.Writing.{line_bytes, field_line, media_lines, head_bytes, request_lines, response_lines, request_bytes, response_bytes, phrase_of, Wrote};
+ghost use Rattle.http_wire.specs.Writing.{line_bytes, field_line, media_lines, length_line, length_lines, phrase_of, status_line, request_lines, response_lines, closed, request_bytes, response_bytes, Wrote};
 
 use crate::link::Link;
 use crate::method::Method;
-use base_types::{Octets, OrMemory};
+use base_types::{Failed, Octets, OrMemory};
 use http::StatusCode;
 use std::alloc::Global;
 use thiserror::Error;
@@ -25,7 +26,7 @@ pub enum SendWire {
 
 // The field of a name and a value, as a line.
 fn push_field(head: &mut Octets, name: &str, value: &str) -> OrMemory<()>
-    ensures ok { OnOk result (head.new ≡ head.old ++ line_bytes (field_line name.now value.now)) }
+    ensures { OnOk result (head.new ≡ head.old ++ line_bytes (field_line name.now value.now)) }
 {
     head.extend(name.as_bytes())?;
     head.extend(b": ")?;
@@ -33,25 +34,36 @@ fn push_field(head: &mut Octets, name: &str, value: &str) -> OrMemory<()>
     head.extend(b"\r\n")
 }
 
-// The line on the length of a body of so many bytes.
-fn push_length(alloc: Global, head: &mut Octets, size: usize) -> OrMemory<()>
-    ensures ok { OnOk result (head.new ≡ head.old ++ line_bytes (field_line (codes "Content-Length") (decimal size))) }
+// The line on the length of a body.
+fn push_length(alloc: Global, head: &mut Octets, body: &[u8]) -> OrMemory<()>
+    ensures { OnOk result (head.new ≡ head.old ++ line_bytes (length_line body.now)) }
 {
+    let size = body.len();
     let digits = format!(in alloc; "{size}")?;
     push_field(head, "Content-Length", digits.as_str())
 }
 
+// The line on the media type of a body, where there is a body.
+fn push_media(head: &mut Octets, media: &str, body: &[u8]) -> OrMemory<()>
+    ensures { OnOk result (head.new ≡ head.old ++ flat_map line_bytes (media_lines media.now body.now)) }
+{
+    match body {
+        [] => Ok(()),
+        [_, ..] => push_field(head, "Content-Type", media),
+    }
+}
+
 // The last line of fields, and the empty line.
 fn push_close(head: &mut Octets) -> OrMemory<()>
-    ensures ok { OnOk result (head.new ≡ head.old ++ line_bytes (field_line (codes "Connection") (codes "close")) ++ codes "\r\n") }
+    ensures { OnOk result (head.new ≡ head.old ++ line_bytes (field_line (codes "Connection") (codes "close")) ++ codes "\r\n") }
 {
     push_field(head, "Connection", "close")?;
     head.extend(b"\r\n")
 }
 
-// The first line of a request, and the host.
-fn push_request_line(head: &mut Octets, method: &str, host: &str, path: &str) -> OrMemory<()>
-    ensures ok { OnOk result (head.new ≡ head.old ++ line_bytes (method.now ++ codes " " ++ path.now ++ codes " HTTP/1.1") ++ line_bytes (field_line (codes "Host") host.now)) }
+// The first line of a request, and its host.
+fn push_target(head: &mut Octets, method: &str, host: &str, path: &str) -> OrMemory<()>
+    ensures { OnOk result (head.new ≡ head.old ++ line_bytes (method.now ++ codes " " ++ path.now ++ codes " HTTP/1.1") ++ line_bytes (field_line (codes "Host") host.now)) }
 {
     head.extend(method.as_bytes())?;
     head.extend(b" ")?;
@@ -60,79 +72,118 @@ fn push_request_line(head: &mut Octets, method: &str, host: &str, path: &str) ->
     push_field(head, "Host", host)
 }
 
-// The head of a request.
-fn request_head(
+// The lines of a POST, of which the last is still to come.
+fn push_post(alloc: Global, head: &mut Octets, host: &str, path: &str, body: &[u8]) -> OrMemory<()>
+    ensures { OnOk result (head.new ≡ head.old ++ flat_map line_bytes (request_lines Method.Post host.now path.now body.now)) }
+{
+    push_target(head, "POST", host, path)?;
+    push_field(head, "Accept", "application/teep+cbor")?;
+    push_media(head, "application/teep+cbor", body)?;
+    push_length(alloc, head, body)
+}
+
+// The same of a request of either method.
+fn push_request(
     alloc: Global,
+    head: &mut Octets,
     method: Method,
     host: &str,
     path: &str,
     body: &[u8],
-) -> OrMemory<Octets>
-    requires { method ≡ Method.Get → body.now ≡ [] }
-    ensures head { IfOk result (λ head. head ≡ head_bytes (request_lines method host.now path.now body.now)) }
+) -> OrMemory<()>
+    ensures { OnOk result (head.new ≡ head.old ++ flat_map line_bytes (request_lines method host.now path.now body.now)) }
 {
-    let mut head = Octets::new(alloc);
     match method {
-        Method::Get => push_request_line(&mut head, "GET", host, path)?,
-        Method::Post => {
-            push_request_line(&mut head, "POST", host, path)?;
-            push_field(&mut head, "Accept", "application/teep+cbor")?;
-            push_body_type(&mut head, "application/teep+cbor", body)?;
-            push_length(alloc, &mut head, body.len())?;
-        }
+        Method::Get => push_target(head, "GET", host, path),
+        Method::Post => push_post(alloc, head, host, path, body),
     }
-    push_close(&mut head)?;
-    Ok(head)
 }
 
-// The media type of a body, where there is one.
-fn push_body_type(head: &mut Octets, media: &str, body: &[u8]) -> OrMemory<()>
-    ensures ok { OnOk result (head.new ≡ head.old ++ flat_map line_bytes (media_lines media.now body.now)) }
+// The phrase of a status.
+fn phrase_of(status: StatusCode) -> &'static str
+    ensures { result.now ≡ phrase_of status }
+{
+    match status.canonical_reason() {
+        Some(phrase) => phrase,
+        None => "",
+    }
+}
+
+// The first line of a response.
+fn push_status(alloc: Global, head: &mut Octets, status: StatusCode) -> OrMemory<()>
+    ensures { OnOk result (head.new ≡ head.old ++ line_bytes (status_line status)) }
+{
+    let code = status.as_u16();
+    let digits = format!(in alloc; "{code}")?;
+    head.extend(b"HTTP/1.1 ")?;
+    head.extend(digits.as_bytes())?;
+    head.extend(b" ")?;
+    head.extend(phrase_of(status).as_bytes())?;
+    head.extend(b"\r\n")
+}
+
+// The line on the length of a response's body, where there is one.
+fn push_size(alloc: Global, head: &mut Octets, status: u16, body: &[u8]) -> OrMemory<()>
+    ensures { OnOk result (head.new ≡ head.old ++ flat_map line_bytes (length_lines status body.now)) }
+{
+    if status == 204 {
+        return Ok(());
+    }
+    push_length(alloc, head, body)
+}
+
+// The lines of a response, of which the last is still to come.
+fn push_response(
+    alloc: Global,
+    head: &mut Octets,
+    status: StatusCode,
+    media: &str,
+    body: &[u8],
+) -> OrMemory<()>
+    ensures { OnOk result (head.new ≡ head.old ++ flat_map line_bytes (response_lines status media.now body.now)) }
+{
+    push_status(alloc, head, status)?;
+    push_media(head, media, body)?;
+    push_size(alloc, head, status.as_u16(), body)
+}
+
+// Writes a body, where there is one.
+fn write_body<L: Link>(link: &mut L, body: &[u8]) -> Result<(), Failed>
+    ensures cause { HasCause (L.faults link.old) (L.faults link.new) result }
+    ensures written { L.told → Sends body.now result (L.stream link.old) (L.stream link.new) }
+    ensures keeps { L.keeps_written link.old link.new }
 {
     if body.is_empty() {
         return Ok(());
     }
-    push_field(head, "Content-Type", media)
+    link.write(body)
 }
 
-// The head of a response.
-fn response_head(
-    alloc: Global,
-    status: StatusCode,
-    media: &str,
-    body: &[u8],
-) -> OrMemory<Octets>
-    ensures head { IfOk result (λ head. head ≡ head_bytes (response_lines status media.now body.now)) }
+// Closes a head, and writes it and then a body.
+fn write_both<L: Link>(link: &mut L, mut head: Octets, body: &[u8]) -> Result<(), SendWire>
+    ensures written { L.told → Wrote (closed head ++ body.now) (L.stream link.old) (L.stream link.new) result }
+    ensures cause { CausedBy (result ≡ Err SendWire.LinkFault) (L.faults link.old) (L.faults link.new) }
+    ensures keeps { L.keeps_written link.old link.new }
 {
-    let code = status.as_u16();
-    let digits = format!(in alloc; "{code}")?;
-    let mut head = Octets::new(alloc);
-    head.extend(b"HTTP/1.1 ")?;
-    head.extend(digits.as_bytes())?;
-    head.extend(b" ")?;
-    head.extend(status.canonical_reason().unwrap_or("").as_bytes())?;
-    head.extend(b"\r\n")?;
-    push_body_type(&mut head, media, body)?;
-    if code != 204 {
-        push_length(alloc, &mut head, body.len())?;
+    match push_close(&mut head) {
+        Ok(()) => write_closed(link, head.as_slice(), body),
+        Err(_) => Err(SendWire::NoMemory),
     }
-    push_close(&mut head)?;
-    Ok(head)
 }
 
 // Writes a head, and then a body.
-fn write_both<L: Link>(link: &mut L, head: &[u8], body: &[u8]) -> Result<(), SendWire>
+fn write_closed<L: Link>(link: &mut L, head: &[u8], body: &[u8]) -> Result<(), SendWire>
     ensures written { L.told → Wrote (head.now ++ body.now) (L.stream link.old) (L.stream link.new) result }
     ensures cause { CausedBy (result ≡ Err SendWire.LinkFault) (L.faults link.old) (L.faults link.new) }
     ensures keeps { L.keeps_written link.old link.new }
 {
-    if link.write(head).is_err() {
-        return Err(SendWire::LinkFault);
+    match link.write(head) {
+        Ok(()) => match write_body(link, body) {
+            Ok(()) => Ok(()),
+            Err(_) => Err(SendWire::LinkFault),
+        },
+        Err(_) => Err(SendWire::LinkFault),
     }
-    if !body.is_empty() && link.write(body).is_err() {
-        return Err(SendWire::LinkFault);
-    }
-    Ok(())
 }
 
 /// Writes a request to a host, which is given with its port (RFC 9112, section 3.2.1), for a path, which
@@ -154,8 +205,9 @@ pub fn write_request<L: Link>(
     ensures cause { CausedBy (result ≡ Err SendWire.LinkFault) (L.faults link.old) (L.faults link.new) }
     ensures keeps { L.keeps_written link.old link.new }
 {
-    match request_head(alloc, method, host, path, body) {
-        Ok(head) => write_both(link, head.as_slice(), body),
+    let mut head = Octets::new(alloc);
+    match push_request(alloc, &mut head, method, host, path, body) {
+        Ok(()) => write_both(link, head, body),
         Err(_) => Err(SendWire::NoMemory),
     }
 }
@@ -179,8 +231,9 @@ pub fn write_response<L: Link>(
     ensures keeps { L.keeps_written link.old link.new }
 {
     let code = StatusCode::from_u16(status).unwrap();
-    match response_head(alloc, code, media, body) {
-        Ok(head) => write_both(link, head.as_slice(), body),
+    let mut head = Octets::new(alloc);
+    match push_response(alloc, &mut head, code, media, body) {
+        Ok(()) => write_both(link, head, body),
         Err(_) => Err(SendWire::NoMemory),
     }
 }

@@ -11,5 +11,5 @@ returns-then-response-gt-FIELDS_LIMIT c = inr (no_few c.args.head.now c.in-Ok-Co
 pub returns : goal.returns
 returns c =
     ok_more _ _ (announces c.args.head.now c.in-Ok-Complete.size c.parse.new.self c.in-Some.status
-      (rw c.in-Ok-Complete.field-0-is at c.in-Ok-Complete.ensures.complete) c.if-size-head.false c.if-response-gt-FIELDS_LIMIT.false c.in-Some.is)
+    (rw c.in-Ok-Complete.field-0-is at c.in-Ok-Complete.ensures.complete) c.if-size-head.false c.if-response-gt-FIELDS_LIMIT.false c.in-Some.is)
     c.announced_by.result c.announced_by.ensures

@@ -8,8 +8,7 @@ returns-in-Ok-extend-clause-contents c =
     let m = c.args.self.now in
     let b = c.args.bytes.now in
     let half = take (length b / 2) b in
-    let is : c.extend-2.new.self ≡ m.sent ++ half = grind (arith, common_steps, c.in-Ok-extend.ensures.ok) in
-    (
+    let is : c.extend-2.new.self ≡ m.sent ++ half = grind (arith, common_steps, c.in-Ok-extend.ensures.ok) in (
       half,
       (drop (length b / 2) b, sym (take-append-drop (length b / 2) b)),
       ap (λ (s : List ℕ). let it : Stream = record { taken = m.taken; rest = drop m.taken m.input; sent = s } in it) is,
