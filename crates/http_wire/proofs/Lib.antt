@@ -5,3 +5,4 @@ pub mod Judging
 pub mod Joining
 pub mod Media
 pub mod Written
+pub mod Alone

@@ -7,6 +7,7 @@
 
 mod announced;
 mod fields;
+mod laws;
 mod link;
 mod memory_link;
 mod method;
@@ -22,6 +23,7 @@ mod write;
 pub use announced::Announced;
 pub use fetch_uri::{HOST_LIMIT, URI_LIMIT, Uri, is_uri, read_uri};
 pub use fields::FIELDS_LIMIT;
+pub use laws::one_request;
 pub use link::Link;
 pub use memory_link::MemoryLink;
 pub use method::Method;
