@@ -1,3 +1,5 @@
 pub mod State
 pub mod Valid
 pub mod Heads
+pub mod Places
+pub mod Sorting

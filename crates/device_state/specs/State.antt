@@ -1,14 +1,11 @@
 -- What a device keeps, what a change makes of it, and what it weighs.
-use Rattle.std.specs.Prelude.{ℕ, ◌+◌, List, [], ◌∷◌, length, map, sum, Option, Some, None, if◌then◌else◌}
-use Rattle.core.specs.declared.cmp.Ordering.{Ordering}
-use Rattle.core.specs.declared.cmp.Ordering.TheVariants.{Less, Equal, Greater}
-use Rattle.core.specs.Ordering.{nat_cmp}
-use Rattle.core.specs.Cmp.Lexicographic.{slice_cmp}
+use Rattle.std.specs.Prelude.{ℕ, ◌+◌, ◌-◌, ◌^◌, min, List, [], ◌∷◌, length, map, sum, Option, Some, None, if◌then◌else◌}
 use Rattle.trust_anchors.specs.declared.anchors.Anchors.{Anchors}
 use Rattle.device_config.specs.declared.config.Config.{Config}
 use Rattle.device_state.specs.declared.rows.ComponentRow.{ComponentRow}
 use Rattle.device_state.specs.declared.rows.ManifestRow.{ManifestRow}
 use Rattle.device_state.specs.declared.change.Change.{Change}
+use Rattle.device_state.specs.Places.{put_by}
 use Rattle.cbor_core.specs.Spelling.{bytes_below}
 
 -- The configuration with the anchors of the present, how many leaves of the key are used, and a row for each manifest. Rows stand in
@@ -34,16 +31,9 @@ in_order (c ∷ cs) = put_component c (in_order cs)
 abbrev pub ordered : ManifestRow → ManifestRow
 ordered row = record row { components = in_order row.components }
 
--- a row in front of others, by how its identifier stands to that of the first of them: before it, in its place, or further behind
-abbrev pub place_row : Ordering → ManifestRow → ManifestRow → List ManifestRow → List ManifestRow → List ManifestRow
-place_row Less row first others behind = row ∷ first ∷ others
-place_row Equal row first others behind = row ∷ others
-place_row Greater row first others behind = first ∷ behind
-
--- the row in the place of that of its identifier, or where it belongs if there is none
+-- a row in the place of that of its identifier, or where it belongs if there is none
 abbrev pub put_row : ManifestRow → List ManifestRow → List ManifestRow
-put_row row [] = row ∷ []
-put_row row (first ∷ others) = place_row (slice_cmp nat_cmp row.id first.id) row first others (put_row row others)
+put_row = put_by (λ row. row.id)
 
 -- each of the rows put where it belongs, one after the other
 abbrev pub put_rows : List ManifestRow → List ManifestRow → List ManifestRow
@@ -85,6 +75,10 @@ row_weight row = 256 + length row.id + sum (map component_weight row.components)
 -- all rows
 abbrev pub rows_weight : List ManifestRow → ℕ
 rows_weight rows = sum (map row_weight rows)
+
+-- a number, and 2^64 - 1 of one that is greater
+abbrev pub capped : ℕ → ℕ
+capped n = min n (2 ^ 64 - 1)
 
 -- what a device keeps weighs so much
 abbrev pub weight : State → ℕ

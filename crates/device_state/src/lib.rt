@@ -7,9 +7,20 @@
 #![tactic(auto)]
 
 mod change;
+mod copies;
 mod heads;
+mod identifier;
+mod ids;
+mod order;
+mod placing;
 mod rows;
+mod sound;
+mod weight;
 
 pub use change::Change;
 pub use heads::{PartHead, RowHead};
+pub use ids::HasId;
+pub use placing::put;
 pub use rows::{ComponentRow, ManifestRow};
+pub use sound::is_sound;
+pub use weight::{heads_weight, rows_weight};

@@ -1,0 +1,4 @@
+pub mod Putting
+pub mod Doubles
+pub mod Sinking
+pub mod Weights
