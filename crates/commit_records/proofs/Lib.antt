@@ -1,0 +1,4 @@
+pub mod Again
+pub mod Written
+pub mod Sizes
+pub mod Readers

@@ -11,8 +11,6 @@ mod forms;
 mod laws;
 mod read;
 mod rows;
-#[cfg(test)]
-mod tests;
 mod write;
 
 pub use fault::ChangeFault;
