@@ -4,3 +4,4 @@ pub mod Sinking
 pub mod Strings
 pub mod Weights
 pub mod Leaves
+pub mod Orders

@@ -3,3 +3,4 @@ pub mod Valid
 pub mod Heads
 pub mod Places
 pub mod Sorting
+pub mod Law
