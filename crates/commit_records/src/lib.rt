@@ -11,6 +11,8 @@ mod forms;
 mod laws;
 mod read;
 mod rows;
+#[cfg(test)]
+mod tests;
 mod write;
 
 pub use fault::ChangeFault;

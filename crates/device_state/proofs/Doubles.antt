@@ -66,8 +66,7 @@ module _ {X : Type 0} (f : X → List ℕ) where
   pub sorted_differ : (xs ys : List X) → IsPermutation xs ys → IsSortedBy (λ x y. is_lt (C (f x) (f y))) ys
       → (NeighboursDiffer (map f ys) → NoneTwice (map f xs)) × (NoneTwice (map f xs) → NeighboursDiffer (map f ys))
   sorted_differ xs ys moved sorted =
-      let mapped : IsPermutation (map f xs) (map f ys) = IsPermutation-map f xs ys moved in
-      (
+      let mapped : IsPermutation (map f xs) (map f ys) = IsPermutation-map f xs ys moved in (
         λ differ. permuted (map f ys) (map f xs) (IsPermutation-sym (map f xs) (map f ys) mapped) (apart (map f ys) (strict ys sorted differ)),
         λ none k d within. permuted (map f xs) (map f ys) mapped none k (k + 1) d (omega arith) within,
       )
@@ -89,10 +88,10 @@ module _ {X : Type 0} (f : X → List ℕ) where
   more_differ xs at x y least within is before k d less same = elim (cases_lt (k + 1) at) [
     | inl earlier ↦ before k d earlier same
     | inr here ↦ (
-      let at_is : k + 1 ≡ at = omega arith in
-      let k_is : k ≡ at - 1 = omega arith in
-      let first : get_or (map f xs) k d ≡ f (get_or xs (at - 1) x) = ap (λ (n : ℕ). get_or (map f xs) n d) k_is ∙ get_or-map f xs (at - 1) x d (omega arith) in
-      let second : get_or (map f xs) (k + 1) d ≡ f (get_or xs at y) = ap (λ (n : ℕ). get_or (map f xs) n d) at_is ∙ get_or-map f xs at y d within in
-      not_same (f (get_or xs (at - 1) x)) (f (get_or xs at y)) is (sym first ∙ same ∙ second)
-    )
+        let at_is : k + 1 ≡ at = omega arith in
+        let k_is : k ≡ at - 1 = omega arith in
+        let first : get_or (map f xs) k d ≡ f (get_or xs (at - 1) x) = ap (λ (n : ℕ). get_or (map f xs) n d) k_is ∙ get_or-map f xs (at - 1) x d (omega arith) in
+        let second : get_or (map f xs) (k + 1) d ≡ f (get_or xs at y) = ap (λ (n : ℕ). get_or (map f xs) n d) at_is ∙ get_or-map f xs at y d within in
+        not_same (f (get_or xs (at - 1) x)) (f (get_or xs at y)) is (sym first ∙ same ∙ second)
+        )
   ]

@@ -9,8 +9,7 @@ use Rattle.hss_sign.specs.Params.{capacity}
 pub many : (params : KeyParams) (leaves bits : ℕ) → leaves < 2 ^ 64 → bits ≡ params.levels * params.height → 64 ≤ bits → IsTrue (nat_le 64 bits) ↔ (leaves ≤ capacity params)
 many params leaves bits fits is least =
     let power : 2 ^ 64 ≤ 2 ^ bits = pow-le-pow_right {n = 2} (omega arith) least in
-    let within : leaves ≤ 2 ^ bits = omega arith in
-    (
+    let within : leaves ≤ 2 ^ bits = omega arith in (
       λ _. subst (λ (n : ℕ). leaves ≤ 2 ^ n) is within,
       λ _. le-leb 64 bits least,
     )

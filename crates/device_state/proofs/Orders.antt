@@ -52,18 +52,18 @@ not_below e d c first second = by_test (bytes_below e c) refl where
   over : C e c ≡ Less → (o : Ordering) → C d c ≡ o → ⊥
   over less Less at = (let wrong : bytes_below d c ≡ true = ap is_lt at in absurd cc)
   over less Equal at = (
-    let level : C c d ≡ Equal = order.antisymm c d ∙ ap ordering_reverse at in
-    let back : C d e ≡ C c e = order.congr d c e at in
-    let above : C c e ≡ Greater = flip_less e c less in
-    let under : C e d ≡ Less = flip_greater d e (back ∙ above) in
-    let wrong : bytes_below e d ≡ true = ap is_lt under in
-    absurd cc
-  )
+      let level : C c d ≡ Equal = order.antisymm c d ∙ ap ordering_reverse at in
+      let back : C d e ≡ C c e = order.congr d c e at in
+      let above : C c e ≡ Greater = flip_less e c less in
+      let under : C e d ≡ Less = flip_greater d e (back ∙ above) in
+      let wrong : bytes_below e d ≡ true = ap is_lt under in
+      absurd cc
+      )
   over less Greater at = (
-    let under : C e d ≡ Less = order.trans e c d less (flip_greater d c at) in
-    let wrong : bytes_below e d ≡ true = ap is_lt under in
-    absurd cc
-  )
+      let under : C e d ≡ Less = order.trans e c d less (flip_greater d c at) in
+      let wrong : bytes_below e d ≡ true = ap is_lt under in
+      absurd cc
+      )
 
   by_test : (t : Bool) → bytes_below e c ≡ t → t ≡ false
   by_test false is = refl
@@ -100,7 +100,6 @@ ordered_once : (row : ManifestRow) → IsOrdered (ordered row)
 ordered_once row = ap (λ (cs : List ComponentRow). record row { components = cs }) (rising_same (in_order row.components) (order_rising row.components))
 
 -- ---- rows
-
 
 kept_put : {R : Type 0} (id : R → List ℕ) (P : R → Type 0) (row : R) (rows : List R) → P row → AllByRecursion P rows → AllByRecursion P (put_by id row rows)
 kept_put id P row [] one all = (one, tt)

@@ -115,8 +115,7 @@ by_array bytes x count members r (Some xs) spelled at is some tells =
     let members_are : members ≡ spellings xs = ap (λ (p : ℕ × List ℕ). p.1) pair in
     let spellable : IsSpelled x = record { proper = spelled.proper; ranges = spelled.ranges; spelled = refl } in
     let both = tells xs (have_spellings xs (members_spelled x xs spellable at), members_are) count_is in
-    let x_is : is_id x ≡ all_bytes xs = ap is_id (array_is x xs at) ∙ rw i.outs-Array (id_by xs (omega arith)) in
-    (
+    let x_is : is_id x ≡ all_bytes xs = ap is_id (array_is x xs at) ∙ rw i.outs-Array (id_by xs (omega arith)) in (
       λ is_true. (x, (spelled, x_is ∙ both.0 is_true)),
       λ id. both.1 (sym x_is ∙ ap is_id (one_for_one.one_item x id.0 bytes spelled id.1.0) ∙ id.1.1),
     )

@@ -16,6 +16,8 @@ mod order;
 mod placing;
 mod rows;
 mod sound;
+#[cfg(test)]
+mod tests;
 mod weight;
 
 pub use change::Change;
