@@ -14,6 +14,10 @@
 //! | `sign_one` | none | a key of one level, height 5 and width 8, signs at the next leaf |
 //! | `sign_two` | none | a key of two levels, height 10 and width 4, signs at the next leaf of its first lower tree |
 //! | `sign_below` | none | that key signs at the first leaf of the next lower tree |
+//! | `read_envelope` | none | an envelope with an attached payload of 1 MiB is read |
+//! | `hold_digest` | none | the digest of that envelope's manifest, of 17 bytes, is looked at |
+//! | `read_sequence` | none | a sequence of 10,000 commands is read, one of four of which sets a size and a URI |
+//! | `write_sequence` | none | that sequence is written |
 //!
 //! It prints in how many rounds the work was done with a good answer. `benchmarks vectors LEAF` prints what
 //! keys of each kind sign, with the seed of 32 bytes and the message of standard input. Other words print
@@ -22,6 +26,7 @@
 
 mod append;
 mod keys;
+mod manifests;
 mod vectors;
 mod work;
 

@@ -2,6 +2,7 @@ ghost use Rattle.cbor_core.specs.Spelling.{IsProper};
 
 use crate::append::appends;
 use crate::keys::{ONE_LEVEL, TWO_LEVELS, grows, signs};
+use crate::manifests::{holds_digest, reads_envelope, reads_sequence, writes_sequence};
 use cbor_core::{Item, decode_whole, encode, is_proper};
 use hss_verify::{HssPublic, hss_verify};
 use lms_core::chain;
@@ -24,6 +25,10 @@ pub enum Work {
     SignOne,
     SignTwo,
     SignBelow,
+    ReadEnvelope,
+    HoldDigest,
+    ReadSequence,
+    WriteSequence,
 }
 
 impl Work {
@@ -42,6 +47,10 @@ impl Work {
             "sign_one" => Some(Work::SignOne),
             "sign_two" => Some(Work::SignTwo),
             "sign_below" => Some(Work::SignBelow),
+            "read_envelope" => Some(Work::ReadEnvelope),
+            "hold_digest" => Some(Work::HoldDigest),
+            "read_sequence" => Some(Work::ReadSequence),
+            "write_sequence" => Some(Work::WriteSequence),
             _ => None,
         }
     }
@@ -63,6 +72,10 @@ impl Work {
             Work::SignOne => signs(rt, ONE_LEVEL, 1, rounds),
             Work::SignTwo => signs(rt, TWO_LEVELS, 1, rounds),
             Work::SignBelow => signs(rt, TWO_LEVELS, 1024, rounds),
+            Work::ReadEnvelope => reads_envelope(alloc, rounds),
+            Work::HoldDigest => holds_digest(alloc, rounds),
+            Work::ReadSequence => reads_sequence(alloc, rounds),
+            Work::WriteSequence => writes_sequence(alloc, rounds),
         }
     }
 }
