@@ -1,2 +1,3 @@
 mod Ports
 mod Cuts
+pub mod Public

@@ -1,0 +1,6 @@
+mod Lists
+mod Parts
+mod Tries
+mod Finding
+mod Stays
+mod Whole
