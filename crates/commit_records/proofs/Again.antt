@@ -65,7 +65,7 @@ row_again row have = members_again (row_in component_of) (row_members component_
     part_again (unsigned_of (i.Unsigned row.sequence)) row.sequence _ row (unsigned_again row.sequence) (
     part_again (truth_of (i.Truth row.present)) row.present _ row (truth_again row.present) (
     part_again (list_of component_of (i.Array (map component_item row.components))) row.components _ row
-        (list_seen component_of component_item row.components (components_again row.components have)) refl))))
+    (list_seen component_of component_item row.components (components_again row.components have)) refl))))
 
 each_again : (rows : List ManifestRow) → AllByRecursion HaveDigests rows → AllByRecursion (λ row. row_of component_of (row_item component_item row) ≡ Some row) rows
 each_again [] all = tt

@@ -1,3 +1,7 @@
+ghost use Rattle.std.specs.Prelude.{◌≡◌, IfOk, IfSome, length};
+ghost use Rattle.suit_commands.specs.Digests.{IsProperDigest};
+ghost use Rattle.commit_records.specs.Changes.{HasDigest, HaveDigests, IsProperChange};
+
 use crate::{ChangeFault, read_change, write_change};
 use base_types::{List, Octets, OrMemory};
 use device_state::{Change, ComponentRow, ManifestRow};
@@ -5,10 +9,6 @@ use std::alloc::Global;
 use std::test::Fail;
 use suit_commands::{Digest, DigestAlgorithm};
 use trust_anchors::Anchors;
-
-ghost use Rattle.std.specs.Prelude.{◌≡◌, IfOk, IfSome, length};
-ghost use Rattle.suit_commands.specs.Digests.{IsProperDigest};
-ghost use Rattle.commit_records.specs.Changes.{HasDigest, HaveDigests, IsProperChange};
 
 // SHA-256 of `hello`
 const HELLO: [u8; 32] = [
@@ -153,7 +153,11 @@ fn a_leaf_alone_is_short(rt: HostRuntime) -> Result<(), Fail> {
     ];
     for (at, (leaf, clears_anchors, bytes)) in table.iter().enumerate() {
         let change = leaf_change(alloc, *leaf, *clears_anchors);
-        assert_eq!(rt; write_change(alloc, &change)?.as_slice(), *bytes, "row {at}");
+        assert_eq!(rt;
+            write_change(alloc, &change)?.as_slice(),
+            *bytes,
+            "row {at}"
+        );
         assert!(rt; read_change(alloc, bytes)? == change, "row {at}");
     }
     Ok(())
@@ -196,7 +200,9 @@ fn another_form_is_no_change(rt: HostRuntime) -> Result<(), Fail> {
         &[
             0x84, 2, 0, 0x81, 0x84, 0x40, 0, 0xf5, 0x81, 0x82, 0x40, 0x40, 0xf6,
         ],
-        &[0x83, 1, 0, 0x81, 0x84, 0x40, 0, 0xf5, 0x81, 0x82, 0x60, 0x40],
+        &[
+            0x83, 1, 0, 0x81, 0x84, 0x40, 0, 0xf5, 0x81, 0x82, 0x60, 0x40,
+        ],
         &[0x83, 1, 0, 0x81, 0x84, 0x40, 0, 0xf5, 0x81, 0x82, 0x40, 0],
         // a digest that is a byte string
         &[
@@ -209,7 +215,10 @@ fn another_form_is_no_change(rt: HostRuntime) -> Result<(), Fail> {
         &[0x84, 2, 0, 0x80, 0x82, 0x81, 0x40, 0x80],
     ];
     for (at, bytes) in table.iter().enumerate() {
-        assert!(rt; read_change(alloc, bytes) == Err(ChangeFault::BadChange), "row {at}");
+        assert!(rt;
+            read_change(alloc, bytes) == Err(ChangeFault::BadChange),
+            "row {at}"
+        );
     }
     Ok(())
 }
@@ -227,7 +236,10 @@ fn a_great_count_takes_no_room(rt: HostRuntime) -> Result<(), Fail> {
         &[0x83, 1, 0, 0x81, 0x84, 0x5b, 0, 0, 1, 0, 0, 0, 0, 0],
     ];
     for (at, bytes) in table.iter().enumerate() {
-        assert!(rt; read_change(alloc, bytes) == Err(ChangeFault::BadChange), "row {at}");
+        assert!(rt;
+            read_change(alloc, bytes) == Err(ChangeFault::BadChange),
+            "row {at}"
+        );
     }
     Ok(())
 }
