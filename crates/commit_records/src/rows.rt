@@ -4,14 +4,14 @@ ghost use Rattle.item_codec.specs.Fields.{in_array};
 ghost use Rattle.commit_records.specs.Rows.{plain_in, plain_of, plain_item, component_in, component_of, component_item, row_in, row_of, row_item};
 
 use crate::forms::OrNull;
-use base_types::{List, Octets, OrMemory};
+use base_types::{List, OrMemory};
 use cbor_core::Item;
 use cbor_fields::{ByteString, Form, FormFault, ListOf, Truth, Unsigned};
 use device_state::{ComponentRow, ManifestRow};
 use item_codec::read_part;
 use std::alloc::Global;
 use std::marker::PhantomData;
-use suit_commands::{Digest, DigestArray};
+use suit_commands::DigestArray;
 
 /// A component of version 1, `[component id, content]`: no digest is kept.
 pub struct PlainComponent;

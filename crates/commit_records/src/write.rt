@@ -9,7 +9,7 @@ use crate::rows::{Component, Row};
 use base_types::{List, Octets, OrMemory};
 use cbor_core::{Item, encode};
 use cbor_fields::{Form, ListOf};
-use device_state::{Change, ManifestRow};
+use device_state::Change;
 use std::alloc::Global;
 use trust_anchors::Anchors;
 
