@@ -1,5 +1,5 @@
 -- An input has at most one answer that follows from it.
-use Rattle.std.proofs.Common.{◌≡◌, ◌+◌, ◌<◌, ◌≤◌, ◌⊎◌, ℕ, Bool, true, false, cond, List, [], ◌∷◌, ◌++◌, length, take, drop, map, refl, sym, ap, ◌∙◌, subst, inl, inr, arith, append_assoc, append-nil, length-append, Result, Ok, Err}
+use Rattle.std.proofs.Common.{◌≡◌, ◌+◌, ◌<◌, ◌≤◌, ℕ, Bool, true, false, cond, List, [], ◌∷◌, ◌++◌, length, take, drop, map, refl, sym, ap, ◌∙◌, subst, inl, inr, arith, append_assoc, append-nil, length-append, Result, Ok, Err}
 use Rattle.std.specs.Prelude.{nat_le}
 use Rattle.std.proofs.lemmas.List.{append_cancel_left, take_at, drop_at}
 use Rattle.std.proofs.lemmas.Bool.Decides.{nat_tests}
@@ -8,9 +8,9 @@ use Rattle.httparse.proofs.GrammarLemmas.{request_unique}
 use Rattle.httparse.specs.Grammar.{RequestHead}
 use Rattle.httparse.specs.Spans.{name_and_value}
 use Rattle.http_wire.specs.Ends.{EndsInEmptyLine, HasNoEnd, EndsHead}
-use Rattle.http_wire.specs.Parts.{IsHead, IsHeadless, IsPartHead, TookHeadless}
+use Rattle.http_wire.specs.Parts.{IsHead, IsHeadless, IsPartHead}
 use Rattle.http_wire.specs.Requests.{Requested, HeadOf}
-use Rattle.http_wire.specs.Verdicts.{IsJudged, IsRequest, verdict}
+use Rattle.http_wire.specs.Verdicts.{IsJudged, verdict}
 use Rattle.http_wire.specs.Laws.{IsFromInput, OneRequest}
 use Rattle.http_wire.specs.declared.routes.Routes.{Routes}
 use Rattle.http_wire.specs.declared.verdict.Verdict.{Verdict}
