@@ -74,8 +74,10 @@ fn a_manifest_weighs_what_its_head_weighs(rt: HostRuntime) -> Result<(), Fail> {
     let head = row.head(alloc)?;
     assert_eq!(rt; head.sequence, 7);
     assert!(rt; head.present);
-    let lengths = head.components.iter().map(|part| part.length).sum::<u64>();
-    assert_eq!(rt; lengths, 5);
+    assert_eq!(rt; head.components.len(), 1);
+    for part in head.components.as_slice() {
+        assert_eq!(rt; part.length, 5);
+    }
     assert_eq!(rt; row.weight(), 523);
     assert_eq!(rt; head.weight(), 523);
     assert_eq!(rt; rows_weight(&[row, copy]), 1_046);
@@ -91,16 +93,13 @@ fn manifests_are_put_in_their_places(rt: HostRuntime) -> Result<(), Fail> {
     put(&mut rows, row_of(alloc, &[3], &[])?);
     put(&mut rows, row_of(alloc, &[1], &[])?);
     put(&mut rows, row_of(alloc, &[2], &[&[9]])?);
-    let mut ids = Octets::new(alloc);
+    // their identifiers, and for each whether it has components
+    let mut found = Octets::new(alloc);
     for row in rows.iter() {
-        ids.extend(row.id.as_slice())?;
+        found.extend(row.id.as_slice())?;
+        found.push(u8::from(!row.components.is_empty()))?;
     }
-    assert_eq!(rt; ids.as_slice(), [1, 2, 3].as_slice());
-    let components = rows
-        .iter()
-        .map(|row| row.components.len() as u64)
-        .sum::<u64>();
-    assert_eq!(rt; components, 1);
+    assert_eq!(rt; found.as_slice(), [1, 0, 2, 1, 3, 0].as_slice());
     Ok(())
 }
 
