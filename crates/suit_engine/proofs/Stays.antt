@@ -107,7 +107,7 @@ module _ (w : World) (more : List Fetched) where
 
   keeps_named : (uri : List ℕ) (b : Bool) (s : State)
       → Keeps w.env (cond b (takes (attached_bytes (attached_as uri w.attached)) s) (cond (is_address uri) (takes_fetched w uri (fetched_as uri w.env) s) (Fails Payload)))
-        (cond b (takes (attached_bytes (attached_as uri w.attached)) s) (cond (is_address uri) (takes_fetched (later w more) uri (fetched_as uri (w.env ++ more)) s) (Fails Payload)))
+      (cond b (takes (attached_bytes (attached_as uri w.attached)) s) (cond (is_address uri) (takes_fetched (later w more) uri (fetched_as uri (w.env ++ more)) s) (Fails Payload)))
   keeps_named uri true s = keeps_takes w.env (attached_bytes (attached_as uri w.attached)) s
   keeps_named uri false s = keeps_address uri (is_address uri) refl s
 

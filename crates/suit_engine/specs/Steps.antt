@@ -34,7 +34,8 @@ unless_caught next (Fails Fetches) = Fails Fetches
 unless_caught next (Needs uri) = Needs uri
 
 -- Alternatives in their order, each from the same state, until one is not caught. Where none is left a null behind them leaves the state as it is, and
--- else the word of the last one is given (draft-ietf-suit-manifest, "suit-directive-try-each").
+-- else the word of the last one is given (draft-ietf-suit-manifest, "suit-directive-try-each"). The word that it begins with never shows, since a try-each
+-- has an alternative, or the null behind them.
 abbrev pub tried : Bool → Word → List Act → Act
 tried null_last word [] before = if null_last then Went before else Fails word
 tried null_last word (act ∷ acts) before = unless_caught (λ w. tried null_last w acts before) (act before)

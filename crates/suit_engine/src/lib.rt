@@ -1,7 +1,7 @@
 //! The run of a SUIT manifest (draft-ietf-suit-manifest, "Abstract Machine"): its sequences are carried
 //! out, and what each component is comes out.
 //!
-//! A run stops where it needs a payload from outside, and goes on from there once the payload is known.
+//! A run stops where it needs a payload from outside, and is begun anew once the payload is known.
 #![tactic(auto)]
 
 mod conditions;
@@ -15,6 +15,8 @@ mod run;
 mod shared;
 mod state;
 mod stop;
+#[cfg(test)]
+mod tests;
 mod world;
 
 pub use engine::Engine;

@@ -32,11 +32,7 @@ fn run_command(command: &Command, world: &Around<'_>, state: State) -> Result<St
 
 /// Runs commands in turn.
 #[cycle(run)]
-pub(crate) fn run_all(
-    commands: &[Command],
-    world: &Around<'_>,
-    state: State,
-) -> Result<State, Stop>
+pub(crate) fn run_all(commands: &[Command], world: &Around<'_>, state: State) -> Result<State, Stop>
     ensures { Gives (do_all world.now commands.now state) result }
 {
     let mut state = state;

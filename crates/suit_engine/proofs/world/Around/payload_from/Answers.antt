@@ -8,8 +8,8 @@ returns-then-is_uri c =
     let w = c.args.self.now in
     let uri = c.args.uri.now in
     found_same (fetches w uri) (takes_fetched w uri (fetched_as uri w.env))
-      (address_is w uri c.as_str-text.result.now c.as_str-text.ensures.value (sym c.is_name.ensures ∙ c.if-is_name.false) c.is_uri.result c.is_uri.ensures c.if-is_uri.true)
-      c.fetched_payload.result c.fetched_payload.ensures
+    (address_is w uri c.as_str-text.result.now c.as_str-text.ensures.value (sym c.is_name.ensures ∙ c.if-is_name.false) c.is_uri.result c.is_uri.ensures c.if-is_uri.true)
+    c.fetched_payload.result c.fetched_payload.ensures
 
 pub returns-else-is_uri : goal.returns-else-is_uri
 returns-else-is_uri c = λ s.
