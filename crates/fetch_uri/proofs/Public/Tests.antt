@@ -65,7 +65,7 @@ is_port_of port least most =
     let value : digits_value 10 (decimal port) ≡ port = (decimal_is_IsNumeral port (omega arith)).1 in
     let same : pointwise nat_eq (decimal port) (decimal port) ≡ true = tested (decimal port) (decimal port) (pointwise nat_eq (decimal port) (decimal port)) refl refl in
     rw value (and_from (nat_le 1 port && nat_le port 65535) (pointwise nat_eq (decimal port) (decimal port))
-      (and_from (nat_le 1 port) (nat_le port 65535) (le-leb 1 port least) (le-leb port 65535 most)) same)
+    (and_from (nat_le 1 port) (nat_le port 65535) (le-leb 1 port least) (le-leb port 65535 most)) same)
 
 digits_pass : (port : ℕ) → port ≤ 65535 → AllPass is_ascii_digit (decimal port)
 digits_pass port most k d below =
@@ -118,7 +118,7 @@ found text is =
     let colon = and_parts (begins (codes ":") back) (is_port_and_path (drop 1 back)) parts.1 in
     let last = port_and_path_is (drop 1 back) colon.1 in
     let spelled : text ≡ codes "http://" ++ host ++ codes ":" ++ decimal last.0 ++ last.1 =
-        spell (codes "http://") host (codes ":") (decimal last.0) last.1 text behind back (drop 1 back) (begun (codes "http://") text front.1) (parted is_host_byte behind) (begun (codes ":") back colon.0) last.2.0 in
+    spell (codes "http://") host (codes ":") (decimal last.0) last.1 text behind back (drop 1 back) (begun (codes "http://") text front.1) (parted is_host_byte behind) (begun (codes ":") back colon.0) last.2.0 in
     (host, last.0, last.1, record { spelled = spelled; size = leb-true (length text) 1024 front.0; host_is = host_is behind parts.0; port_least = last.2.1; port_most = last.2.2; path_is = last.2.3 })
 
 passes_port_and_path : (port : ℕ) (path : List ℕ) → 1 ≤ port → port ≤ 65535 → IsPath path → is_port_and_path (decimal port ++ path) ≡ true
@@ -127,14 +127,14 @@ passes_port_and_path port (y ∷ ys) least most is =
     let slash : y ≡ 47 = is.slash in
     let stops : is_ascii_digit y ≡ false = rw slash refl in
     and_from (is_port (take_while is_ascii_digit (decimal port ++ (y ∷ ys)))) (is_path (behind_run is_ascii_digit (decimal port ++ (y ∷ ys))))
-      (ap is_port (run_taken is_ascii_digit (decimal port) y ys (digits_pass port most) stops) ∙ is_port_of port least most)
-      (ap is_path (run_dropped is_ascii_digit (decimal port) y ys (digits_pass port most) stops) ∙ is_path_of (y ∷ ys) is)
+    (ap is_port (run_taken is_ascii_digit (decimal port) y ys (digits_pass port most) stops) ∙ is_port_of port least most)
+    (ap is_path (run_dropped is_ascii_digit (decimal port) y ys (digits_pass port most) stops) ∙ is_path_of (y ∷ ys) is)
 
 passes_behind_scheme : (host rest : List ℕ) → IsHost host → is_port_and_path rest ≡ true → is_behind_scheme (host ++ (58 ∷ rest)) ≡ true
 passes_behind_scheme host rest is passes =
     and_from (is_host_long (take_while is_host_byte (host ++ (58 ∷ rest)))) (is_behind_host (behind_run is_host_byte (host ++ (58 ∷ rest))))
-      (ap is_host_long (run_taken is_host_byte host 58 rest is.bytes refl) ∙ and_from (nat_le 1 (length host)) (nat_le (length host) 255) (le-leb 1 (length host) is.least) (le-leb (length host) 255 is.most))
-      (ap is_behind_host (run_dropped is_host_byte host 58 rest is.bytes refl) ∙ and_from (begins (codes ":") (58 ∷ rest)) (is_port_and_path rest) (begins_with (codes ":") rest) passes)
+    (ap is_host_long (run_taken is_host_byte host 58 rest is.bytes refl) ∙ and_from (nat_le 1 (length host)) (nat_le (length host) 255) (le-leb 1 (length host) is.least) (le-leb (length host) 255 is.most))
+    (ap is_behind_host (run_dropped is_host_byte host 58 rest is.bytes refl) ∙ and_from (begins (codes ":") (58 ∷ rest)) (is_port_and_path rest) (begins_with (codes ":") rest) passes)
 
 only : (text : List ℕ) → IsUri text → is_address text ≡ true
 unfolding is_address
@@ -143,8 +143,8 @@ only text (host, port, path, is) =
     let whole : text ≡ codes "http://" ++ (host ++ (58 ∷ (decimal port ++ path))) = is.spelled ∙ simp append_assoc in
     let back : drop 7 text ≡ behind = ap (drop 7) whole ∙ drop-append_seam (codes "http://") behind in
     and_from (nat_le (length text) 1024 && begins (codes "http://") text) (is_behind_scheme (drop 7 text))
-      (and_from (nat_le (length text) 1024) (begins (codes "http://") text) (le-leb (length text) 1024 is.size) (ap (begins (codes "http://")) whole ∙ begins_with (codes "http://") behind))
-      (ap is_behind_scheme back ∙ passes_behind_scheme host (decimal port ++ path) is.host_is (passes_port_and_path port path is.port_least is.port_most is.path_is))
+    (and_from (nat_le (length text) 1024) (begins (codes "http://") text) (le-leb (length text) 1024 is.size) (ap (begins (codes "http://")) whole ∙ begins_with (codes "http://") behind))
+    (ap is_behind_scheme back ∙ passes_behind_scheme host (decimal port ++ path) is.host_is (passes_port_and_path port path is.port_least is.port_most is.path_is))
 
 -- a text passes the test exactly where it is an address
 pub is_address_iff : (text : List ℕ) → IsTrue (is_address text) ↔ IsUri text
