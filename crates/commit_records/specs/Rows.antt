@@ -33,9 +33,11 @@ plain_in (id ∷ content ∷ []) =
     Ok (record { id = id; bytes = bytes; digest = None })))
 plain_in _ = Err Shape
 
+-- the component of such an array
 abbrev pub plain_of : Item → Option ComponentRow
 plain_of x = value_of (in_array Shape plain_in x)
 
+-- the array of a component without its digest
 abbrev pub plain_item : ComponentRow → Item
 plain_item c = i.Array (i.Bytes c.id ∷ i.Bytes c.bytes ∷ [])
 
@@ -48,12 +50,15 @@ component_in (id ∷ digest ∷ content ∷ []) =
     Ok (record { id = id; bytes = bytes; digest = digest }))))
 component_in _ = Err Shape
 
+-- the component of such an array
 abbrev pub component_of : Item → Option ComponentRow
 component_of x = value_of (in_array Shape component_in x)
 
+-- the parts of a component in version 2
 abbrev pub component_members : ComponentRow → List Item
 component_members c = i.Bytes c.id ∷ null_or digest_item c.digest ∷ i.Bytes c.bytes ∷ []
 
+-- the array of these
 abbrev pub component_item : ComponentRow → Item
 component_item c = i.Array (component_members c)
 
@@ -69,11 +74,14 @@ row_in component (id ∷ sequence ∷ present ∷ components ∷ []) =
     Ok (record { id = id; sequence = sequence; present = present; components = components })))))
 row_in component _ = Err Shape
 
+-- the row of such an array
 abbrev pub row_of : (Item → Option ComponentRow) → Item → Option ManifestRow
 row_of component x = value_of (in_array Shape (row_in component) x)
 
+-- the parts of a row, its components written so
 abbrev pub row_members : (ComponentRow → Item) → ManifestRow → List Item
 row_members component row = i.Bytes row.id ∷ i.Unsigned row.sequence ∷ i.Truth row.present ∷ i.Array (map component row.components) ∷ []
 
+-- the array of these
 abbrev pub row_item : (ComponentRow → Item) → ManifestRow → Item
 row_item component row = i.Array (row_members component row)

@@ -1,5 +1,6 @@
 // A change is written as bytes.
 ghost use Rattle.std.specs.Prelude.{◌≡◌, ◌+◌, ◌≤◌, [], None, IfOk, IfSome, length};
+ghost use Rattle.cbor_core.specs.Spelling.{Spells};
 ghost use Rattle.commit_records.specs.Changes.{AnchorsOrNull, ChangeIs, IsProperChange, written_change, change_room};
 ghost use Rattle.commit_records.specs.Rows.{null_or};
 ghost use Rattle.device_state.specs.Valid.{AreFew};
@@ -42,6 +43,8 @@ fn write_item(alloc: Global, change: &Change) -> OrMemory<Item>
 /// The change as bytes of version 2, which `read_change` reads back. Refused for want of memory alone.
 pub fn write_change(alloc: Global, change: &Change) -> OrMemory<Octets>
     requires { IsProperChange change.now }
+    // They spell the item of version 2.
+    ensures spelled { IfOk result (λ bytes. Spells (written_change change.now) bytes) }
     // They are read as this change.
     ensures again { IfOk result (λ bytes. ChangeIs change.now bytes) }
     // A row takes less than it weighs, and anchors take less than 2,400 bytes.
