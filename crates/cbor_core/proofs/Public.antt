@@ -5,6 +5,8 @@ pub mod Parts
 pub mod Ranges
 pub mod KeyOrder
 pub mod Sizes
+pub mod Small
+pub mod Proper
 pub mod Views
 pub mod Whole
 pub mod ExactlyOne

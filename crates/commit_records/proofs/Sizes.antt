@@ -1,30 +1,21 @@
 -- How long a change is: rows take less than they weigh, and anchors less than 2,400 bytes.
-use Rattle.std.proofs.Common.{◌≡◌, ℕ, ◌+◌, ◌*◌, ◌<◌, ◌≤◌, Bool, List, [], ◌∷◌, ◌++◌, length, map, Option, Some, None, Result, Ok, Err, refl, sym, ap, subst, ◌∙◌, arith, inl, inr}
+use Rattle.std.proofs.Common.{◌≡◌, ℕ, ◌+◌, ◌*◌, ◌≤◌, List, [], ◌∷◌, length, map, Option, Some, None, Result, Ok, Err, sym, ap, subst, ◌∙◌, arith}
+use Rattle.std.specs.List.{AllByRecursion}
 use Rattle.std.specs.Prelude.{sum, IfSome, IfOk}
-use Rattle.std.specs.List.{AllZip, AllByRecursion}
-use Rattle.std.proofs.lemmas.Bool.{cases_lt}
-use Rattle.std.proofs.lemmas.List.{length-append, length-map}
 use Rattle.std.proofs.lemmas.List.Sums.{sum_by-cons}
 use Rattle.base_types.specs.declared.memory.NoMemory.{NoMemory}
-use Rattle.cbor_heads.specs.Head.{head}
-use Rattle.cbor_heads.proofs.Public.Heads.{head_short, head_8}
 use Rattle.cbor_core.specs.declared.item.Item.{Item}
-use Rattle.cbor_core.specs.declared.item.Pair.{Pair}
 use Rattle.cbor_core.specs.declared.item.Item.TheVariants as i
-use Rattle.cbor_core.specs.Spelling.{Spells, spelling, spellings, pair_spellings}
-use Rattle.cbor_core.proofs.Public.Spell.{spelling_Unsigned, spelling_Negative, spelling_Bytes, spelling_Array, spelling_Map, spelling_Truth, spelling_Null}
-use Rattle.cbor_core.proofs.Public.Sizes.{number_size, negative_size, string_size, array_size, more_members, more_pairs}
-use Rattle.lms_core.proofs.Public.Forms.{key_size}
-use Rattle.lms_core.specs.Bytes.{u32_bytes}
-use Rattle.hss_verify.specs.Hss.{IsHssPublic}
-use Rattle.cose_core.specs.Key.{written_key}
+use Rattle.cbor_core.specs.Spelling.{Spells, spelling, spellings}
+use Rattle.cbor_core.proofs.Public.Sizes.{number_size, negative_size, string_size, array_size, more_members}
+use Rattle.cbor_core.proofs.Public.Small.{small_number, small_array, truth_size, null_size}
 use Rattle.suit_commands.specs.declared.digest.Digest.{Digest}
 use Rattle.suit_commands.specs.declared.digest.DigestAlgorithm.{DigestAlgorithm}
 use Rattle.suit_commands.specs.declared.digest.DigestAlgorithm.TheVariants.{Sha256, Sha384, Sha512}
 use Rattle.suit_commands.specs.Digests.{digest_item, digest_members, number_of, size_of, IsProperDigest}
 use Rattle.trust_anchors.specs.declared.anchors.Anchors.{Anchors}
-use Rattle.trust_anchors.specs.Anchors.{Wraps, AnchorsIs, wrapped_key, written_anchors}
-use Rattle.trust_anchors.proofs.Lists.{zip_length}
+use Rattle.trust_anchors.specs.Anchors.{written_anchors}
+use Rattle.trust_anchors.proofs.Public.Written.{anchors_size}
 use Rattle.device_state.specs.declared.rows.ComponentRow.{ComponentRow}
 use Rattle.device_state.specs.declared.rows.ManifestRow.{ManifestRow}
 use Rattle.device_state.specs.declared.change.Change.{Change}
@@ -32,99 +23,11 @@ use Rattle.device_state.specs.State.{component_weight, row_weight, rows_weight}
 use Rattle.commit_records.specs.Rows.{null_or, component_members, component_item, row_members, row_item}
 use Rattle.commit_records.specs.Changes.{AnchorsOrNull, HasDigest, HaveDigests, IsProperChange, written_change, anchors_room, rows_room, change_room}
 
--- ---- short heads (RFC 8949, section 3)
-
-head_one : (major n : ℕ) → n < 24 → length (head major n) ≡ 1
-head_one major n short = rw (head_short major n short) refl
-
-head_two : (major n : ℕ) → n < 256 → length (head major n) ≤ 2
-head_two major n less = elim (cases_lt n 24) [
-  | inl short ↦ rw (head_short major n short) (omega arith)
-  | inr long ↦ rw (head_8 major n long less) (omega arith)
-]
-
-small_number : (n : ℕ) → n < 24 → length (spelling (i.Unsigned n)) ≡ 1
-small_number n short = rw (spelling_Unsigned n) (head_one 0 n short)
-
-small_negative : (n : ℕ) → n < 256 → length (spelling (i.Negative n)) ≤ 2
-small_negative n less = rw (spelling_Negative n) (head_two 1 n less)
-
-small_string : (bytes : List ℕ) → length bytes < 256 → length (spelling (i.Bytes bytes)) ≤ 2 + length bytes
-small_string bytes less = rw (spelling_Bytes bytes, length-append (head 2 (length bytes)) bytes) (omega (arith, head_two 2 (length bytes) less))
-
-small_array : (xs : List Item) → length xs < 24 → length (spelling (i.Array xs)) ≡ 1 + length (spellings xs)
-small_array xs short = rw (spelling_Array xs, length-append (head 4 (length xs)) (spellings xs)) (omega (arith, head_one 4 (length xs) short))
-
-small_map : (ps : List Pair) → length ps < 24 → length (spelling (i.Map ps)) ≡ 1 + length (pair_spellings ps)
-small_map ps short = rw (spelling_Map ps, length-append (head 5 (length ps)) (pair_spellings ps)) (omega (arith, head_one 5 (length ps) short))
-
-truth_size : (b : Bool) → length (spelling (i.Truth b)) ≡ 1
-truth_size b = rw (spelling_Truth b) refl
-
-null_size : length (spelling i.Null) ≡ 1
-null_size = rw spelling_Null refl
-
 -- ---- anchors
 
-hss_size : (public : List ℕ) → IsHssPublic public → length public ≡ 60
-hss_size public is =
-    let top : length is.top ≡ 56 = key_size is.top is.known.0 is.known.1 in
-    ap length is.spelled ∙ length-append (u32_bytes is.levels) is.top ∙ ap (λ (n : ℕ). 4 + n) top
-
--- {1: 5, 3: -46, -1: public}
-key_bytes : (public : List ℕ) → length public ≡ 60 → length (spelling (written_key (record { kid = None; public = public }))) ≤ 70
-key_bytes public is =
-    let last : Pair = record { key = i.Negative 0; value = i.Bytes public } in
-    let second : Pair = record { key = i.Unsigned 3; value = i.Negative 45 } in
-    let first : Pair = record { key = i.Unsigned 1; value = i.Unsigned 5 } in
-    omega (
-      arith,
-      small_map (first ∷ second ∷ last ∷ []) (omega arith),
-      more_pairs (i.Unsigned 1) (i.Unsigned 5) (second ∷ last ∷ []),
-      more_pairs (i.Unsigned 3) (i.Negative 45) (last ∷ []),
-      more_pairs (i.Negative 0) (i.Bytes public) [],
-      small_number 1 (omega arith),
-      small_number 5 (omega arith),
-      small_number 3 (omega arith),
-      small_negative 45 (omega arith),
-      small_negative 0 (omega arith),
-      small_string public (omega arith),
-      is,
-    )
-
-wrapped_size : (public : List ℕ) (x : Item) → Wraps public x → length (spelling (wrapped_key public)) ≤ 72
-wrapped_size public x w =
-    let short : length (spelling (written_key (record { kid = None; public = public }))) ≤ 70 = key_bytes public (hss_size public w.known) in
-    omega (arith, small_string (spelling (written_key (record { kid = None; public = public }))) (omega arith), short)
-
-keys_size : (keys : List (List ℕ)) (xs : List Item) → AllZip Wraps keys xs → length (spellings (map wrapped_key keys)) ≤ 72 * length keys
-keys_size [] [] all = omega arith
-keys_size [] (x ∷ xs) all = absurd all
-keys_size (k ∷ keys) [] all = absurd all
-keys_size (k ∷ keys) (x ∷ xs) all = rw (more_members (wrapped_key k) (map wrapped_key keys)) (omega (arith, wrapped_size k x all.0, keys_size keys xs all.1))
-
-role_size : (keys : List (List ℕ)) (xs : List Item) → AllZip Wraps keys xs → length xs ≤ 16 → length (spelling (i.Array (map wrapped_key keys))) ≤ 1153
-role_size keys xs all few =
-    let count : length keys ≤ 16 = omega (arith, zip_length Wraps keys xs all, few) in
-    let members : length (map wrapped_key keys) ≡ length keys = length-map keys wrapped_key in
-    omega (arith, small_array (map wrapped_key keys) (omega arith), keys_size keys xs all, count)
-
-some_size : (v : Anchors) → AnchorsIs v (written_anchors v) → length (spelling (written_anchors v)) ≤ 2307
-some_size v is =
-    let ms = map wrapped_key v.manager in
-    let bs = map wrapped_key v.author in
-    omega (
-      arith,
-      small_array (i.Array ms ∷ i.Array bs ∷ []) (omega arith),
-      more_members (i.Array ms) (i.Array bs ∷ []),
-      more_members (i.Array bs) [],
-      role_size v.manager is.managers is.manager is.small.manager,
-      role_size v.author is.authors is.author is.small.author,
-    )
-
-anchors_size : (o : Option Anchors) → AnchorsOrNull (null_or written_anchors o) o → length (spelling (null_or written_anchors o)) ≤ anchors_room o + 1
-anchors_size None is = omega (arith, null_size)
-anchors_size (Some v) is = omega (arith, some_size v is)
+anchors_or_null_size : (o : Option Anchors) → AnchorsOrNull (null_or written_anchors o) o → length (spelling (null_or written_anchors o)) ≤ anchors_room o + 1
+anchors_or_null_size None is = omega (arith, null_size)
+anchors_or_null_size (Some v) is = omega (arith, anchors_size v (written_anchors v) is)
 
 -- ---- manifests and their components
 
@@ -207,7 +110,7 @@ parts_size change =
     )
 
 change_size : (change : Change) → IsProperChange change → AnchorsOrNull (null_or written_anchors change.anchors) change.anchors → length (spelling (written_change change)) + 5 ≤ change_room change
-change_size change proper anchors = omega (arith, parts_size change, rows_size change.rows proper.digests, anchors_size change.anchors anchors)
+change_size change proper anchors = omega (arith, parts_size change, rows_size change.rows proper.digests, anchors_or_null_size change.anchors anchors)
 
 leaf_size : (change : Change) → change.rows ≡ [] → change.anchors ≡ None → length (spelling (written_change change)) ≤ 13
 leaf_size change no_rows no_anchors =

@@ -1,16 +1,17 @@
 -- What is written for a change is proper, and is that change.
-use Rattle.std.proofs.Common.{◌≡◌, ℕ, zero, suc, Bool, List, [], ◌∷◌, map, Option, Some, None, Result, Ok, Err, refl}
+use Rattle.std.proofs.Common.{◌≡◌, ℕ, suc, List, [], ◌∷◌, map, Option, Some, None, Result, Ok, Err, refl}
 use Rattle.std.specs.Prelude.{IfOk}
 use Rattle.std.specs.List.{AllByRecursion}
 use Rattle.base_types.specs.declared.memory.NoMemory.{NoMemory}
 use Rattle.cbor_core.specs.declared.item.Item.{Item}
 use Rattle.cbor_core.specs.declared.item.Item.TheVariants as i
-use Rattle.cbor_core.specs.Spelling.{Spells, IsProper, IsProperWithin, spelling}
-use Rattle.cose_core.specs.Key.{written_key}
+use Rattle.cbor_core.specs.Spelling.{Spells, IsProper, IsProperWithin}
+use Rattle.cbor_core.proofs.Public.Proper.{number_proper, negative_proper, string_proper, truth_proper, null_proper, array_proper}
 use Rattle.suit_commands.specs.declared.digest.Digest.{Digest}
 use Rattle.suit_commands.specs.Digests.{digest_item, digest_members, number_of}
 use Rattle.trust_anchors.specs.declared.anchors.Anchors.{Anchors}
-use Rattle.trust_anchors.specs.Anchors.{wrapped_key, written_anchors}
+use Rattle.trust_anchors.specs.Anchors.{written_anchors}
+use Rattle.trust_anchors.proofs.Public.Written.{anchors_proper}
 use Rattle.device_state.specs.declared.rows.ComponentRow.{ComponentRow}
 use Rattle.device_state.specs.declared.rows.ManifestRow.{ManifestRow}
 use Rattle.device_state.specs.declared.change.Change.{Change}
@@ -19,29 +20,6 @@ use Rattle.commit_records.specs.Changes.{AnchorsOrNull, ChangeIs, IsProperChange
 use Rattle.commit_records.proofs.Again.{array_again, rows_again}
 
 -- ---- it is proper
-
-string_proper : (depth : ℕ) (bytes : List ℕ) → IsProperWithin depth (i.Bytes bytes)
-string_proper zero bytes = rw (i.outs-Bytes) tt
-string_proper (suc depth) bytes = rw (i.outs-Bytes) tt
-
-number_proper : (depth n : ℕ) → IsProperWithin depth (i.Unsigned n)
-number_proper zero n = rw (i.outs-Unsigned) tt
-number_proper (suc depth) n = rw (i.outs-Unsigned) tt
-
-negative_proper : (depth n : ℕ) → IsProperWithin depth (i.Negative n)
-negative_proper zero n = rw (i.outs-Negative) tt
-negative_proper (suc depth) n = rw (i.outs-Negative) tt
-
-truth_proper : (depth : ℕ) (b : Bool) → IsProperWithin depth (i.Truth b)
-truth_proper zero b = rw (i.outs-Truth) tt
-truth_proper (suc depth) b = rw (i.outs-Truth) tt
-
-null_proper : (depth : ℕ) → IsProperWithin depth i.Null
-null_proper zero = rw (i.outs-Null) tt
-null_proper (suc depth) = rw (i.outs-Null) tt
-
-array_proper : (depth : ℕ) (xs : List Item) → AllByRecursion (IsProperWithin depth) xs → IsProperWithin (suc depth) (i.Array xs)
-array_proper depth xs all = rw (i.outs-Array) (refl, all)
 
 digest_proper : (depth : ℕ) (o : Option Digest) → IsProperWithin (suc depth) (null_or digest_item o)
 digest_proper depth None = null_proper (suc depth)
@@ -69,15 +47,9 @@ rows_proper : (depth : ℕ) (rows : List ManifestRow) → AllByRecursion (IsProp
 rows_proper depth [] = tt
 rows_proper depth (row ∷ rows) = (row_proper depth row, rows_proper depth rows)
 
-keys_proper : (depth : ℕ) (keys : List (List ℕ)) → AllByRecursion (IsProperWithin depth) (map wrapped_key keys)
-keys_proper depth [] = tt
-keys_proper depth (k ∷ keys) = (string_proper depth (spelling (written_key (record { kid = None; public = k }))), keys_proper depth keys)
-
-anchors_proper : (depth : ℕ) (o : Option Anchors) → IsProperWithin (suc (suc depth)) (null_or written_anchors o)
-anchors_proper depth None = null_proper (suc (suc depth))
-anchors_proper depth (Some v) =
-    array_proper (suc depth) (i.Array (map wrapped_key v.manager) ∷ i.Array (map wrapped_key v.author) ∷ [])
-    (array_proper depth (map wrapped_key v.manager) (keys_proper depth v.manager), (array_proper depth (map wrapped_key v.author) (keys_proper depth v.author), tt))
+anchors_or_null_proper : (depth : ℕ) (o : Option Anchors) → IsProperWithin (suc (suc depth)) (null_or written_anchors o)
+anchors_or_null_proper depth None = null_proper (suc (suc depth))
+anchors_or_null_proper depth (Some v) = anchors_proper depth v
 
 abbrev parts_of : Change → List Item
 parts_of change = i.Unsigned 2 ∷ i.Unsigned change.leaf ∷ i.Array (map (row_item component_item) change.rows) ∷ null_or written_anchors change.anchors ∷ []
@@ -87,7 +59,7 @@ change_proper change = array_proper 15 (parts_of change) (
   number_proper 15 2,
   (
     number_proper 15 change.leaf,
-    (array_proper 14 (map (row_item component_item) change.rows) (rows_proper 10 change.rows), (anchors_proper 13 change.anchors, tt)),
+    (array_proper 14 (map (row_item component_item) change.rows) (rows_proper 10 change.rows), (anchors_or_null_proper 13 change.anchors, tt)),
   ),
 )
 

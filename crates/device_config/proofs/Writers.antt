@@ -1,39 +1,18 @@
 -- What is written for a configuration is proper, and is that configuration.
-use Rattle.std.proofs.Common.{◌≤◌, ℕ, zero, suc, List, [], ◌∷◌, length, map, Result, Ok, Err, refl, sym, subst}
-use Rattle.std.specs.Prelude.{IfOk, None}
-use Rattle.std.specs.List.{AllByRecursion}
+use Rattle.std.proofs.Common.{◌≤◌, ℕ, List, [], ◌∷◌, length, Result, Ok, Err, refl, sym, subst}
+use Rattle.std.specs.Prelude.{IfOk}
 use Rattle.base_types.specs.declared.memory.NoMemory.{NoMemory}
 use Rattle.cbor_core.specs.declared.item.Item.{Item}
 use Rattle.cbor_core.specs.declared.item.Item.TheVariants as i
-use Rattle.cbor_core.specs.Spelling.{Spells, IsProper, IsProperWithin, spelling}
-use Rattle.cose_core.specs.Key.{written_key}
-use Rattle.trust_anchors.specs.declared.anchors.Anchors.{Anchors}
-use Rattle.trust_anchors.specs.Anchors.{AnchorsIs, wrapped_key, written_anchors}
+use Rattle.cbor_core.specs.Spelling.{Spells, IsProper, spelling}
+use Rattle.cbor_core.proofs.Public.Proper.{number_proper, string_proper, array_proper}
+use Rattle.trust_anchors.specs.Anchors.{AnchorsIs, written_anchors}
+use Rattle.trust_anchors.proofs.Public.Written.{anchors_proper}
 use Rattle.device_config.specs.declared.config.Config.{Config}
 use Rattle.device_config.specs.declared.config.TheConstants.{CONFIG_LIMIT}
 use Rattle.device_config.specs.Config.{ConfigIs, IsConfig, IsConfigItem}
 use Rattle.device_config.specs.Written.{written_config}
 use Rattle.device_config.proofs.Sizes.{Within, within, written_size}
-
-string_proper : (depth : ℕ) (bytes : List ℕ) → IsProperWithin depth (i.Bytes bytes)
-string_proper zero bytes = rw (i.outs-Bytes) tt
-string_proper (suc depth) bytes = rw (i.outs-Bytes) tt
-
-number_proper : (depth n : ℕ) → IsProperWithin depth (i.Unsigned n)
-number_proper zero n = rw (i.outs-Unsigned) tt
-number_proper (suc depth) n = rw (i.outs-Unsigned) tt
-
-array_proper : (depth : ℕ) (xs : List Item) → AllByRecursion (IsProperWithin depth) xs → IsProperWithin (suc depth) (i.Array xs)
-array_proper depth xs all = rw (i.outs-Array) (refl, all)
-
-keys_proper : (depth : ℕ) (keys : List (List ℕ)) → AllByRecursion (IsProperWithin depth) (map wrapped_key keys)
-keys_proper depth [] = tt
-keys_proper depth (k ∷ keys) = (string_proper depth (spelling (written_key (record { kid = None; public = k }))), keys_proper depth keys)
-
-anchors_proper : (depth : ℕ) (v : Anchors) → IsProperWithin (suc (suc depth)) (written_anchors v)
-anchors_proper depth v =
-    array_proper (suc depth) (i.Array (map wrapped_key v.manager) ∷ i.Array (map wrapped_key v.author) ∷ [])
-    (array_proper depth (map wrapped_key v.manager) (keys_proper depth v.manager), (array_proper depth (map wrapped_key v.author) (keys_proper depth v.author), tt))
 
 abbrev parts_of : Config → List Item
 parts_of v = i.Bytes v.device.vendor ∷ i.Bytes v.device.class ∷ i.Bytes v.device.device ∷ i.Unsigned v.quota

@@ -3,6 +3,9 @@ ghost use Rattle.std.specs.Prelude.{◌≡◌, ◌≢◌, ◌≤◌, ℕ, List, 
 ghost use Rattle.board_core.specs.Contents.{Same};
 ghost use Rattle.board_core.specs.Calls.{DiskCausedBy};
 ghost use Rattle.board_core.specs.Moments.{Passes, NoMoment};
+ghost use Rattle.journal_core.specs.Kept.{IsWithin};
+ghost use Rattle.device_config.specs.Config.{IsConfig};
+ghost use Rattle.device_config.specs.Image.{journal_region};
 ghost use Rattle.device_config.specs.Loading.{Loaded};
 
 use crate::config::Config;
@@ -18,6 +21,8 @@ fn config_of(alloc: Global, head: &[u8], size: u64) -> Result<Config, MountFault
     requires head { length head.now ≡ HEAD_SIZE }
     requires whole { HEAD_SIZE ≤ size }
     ensures loaded { (image : List ℕ) → length image ≡ size → head.now ≡ take HEAD_SIZE image → Loaded image result }
+    ensures config { IfOk result IsConfig }
+    ensures within { IfOk result (λ config. IsWithin (journal_region config.quota) size) }
     ensures disk { result ≢ Err MountFault.DiskFault }
 {
     let Some(bytes) = config_in(head) else {
@@ -56,6 +61,9 @@ fn load_front<B: Board>(alloc: Global, board: &mut B, size: usize) -> Result<Vec
 /// failed disk calls rose in this call. `NoMemory` may come for any image.
 pub fn load_config<B: Board>(alloc: Global, board: &mut B) -> Result<Config, MountFault>
     ensures loaded { B.told → Loaded (B.view board.old).now.disk.bytes result }
+    // Also where the board tells nothing it is a configuration, and the journal that it asks for lies within the image.
+    ensures config { IfOk result IsConfig }
+    ensures within { IfOk result (λ config. IsWithin (journal_region config.quota) (B.view board.old).extent) }
     ensures cause { DiskCausedBy (result ≡ Err MountFault.DiskFault) (B.view board.old) (B.view board.new) }
     ensures same { B.told → Same (B.view board.old) (B.view board.new) }
     ensures moments { B.told → Passes (B.view board.old) (B.view board.new) NoMoment }

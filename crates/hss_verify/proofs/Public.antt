@@ -1,2 +1,3 @@
 -- What other crates may cite.
 pub mod Decided
+pub mod Sizes

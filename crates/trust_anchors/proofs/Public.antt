@@ -1,3 +1,4 @@
 pub mod OneAnchors
 pub mod Signers
 pub mod Blocks
+pub mod Written
