@@ -47,7 +47,7 @@ one_head a b short_a short_b same =
     sym (take_at a (zeros_behind a) (length a) refl) ∙ ap (take (length a)) bodies ∙ take_at b (zeros_behind b) (length a) (sym sizes)
 
 -- the first 65,536 bytes of an image are the head of its configuration
-at_front : (image : List ℕ) (v : Config) (is : IsImage v image) → take 65536 image ≡ head_bytes is.config
+pub at_front : (image : List ℕ) (v : Config) (is : IsImage v image) → take 65536 image ≡ head_bytes is.config
 at_front image v is = ap (take 65536) is.spelled ∙ take_at (head_bytes is.config) is.region 65536 (head_size is.config is.is.short)
 
 -- an image is that of one configuration
@@ -90,6 +90,13 @@ module _ (image head : List ℕ) (front : head ≡ take 65536 image) where
           spelled = split;
           room = omega (arith, enough, ap length split, length-append (head_bytes bytes) (drop 65536 image), head_size bytes head_is.short);
         }
+
+-- an image of the same head and size is that of the same configuration
+pub kept_image : (v : Config) (old new : List ℕ) → IsImage v old → length new ≡ length old → take 65536 new ≡ take 65536 old → IsImage v new
+kept_image v old new is size front =
+    let long : length old ≡ 65536 + length is.region = ap length is.spelled ∙ length-append (head_bytes is.config) is.region ∙ ap (λ (n : ℕ). n + length is.region) (head_size is.config is.is.short) in
+    let head_is : IsHead is.config (take 65536 old) = record { short = is.is.short; spelled = at_front old v is } in
+    with_room new (take 65536 old) (sym front) is.config head_is v is.is (omega (arith, size, long, is.room))
 
 -- a new image is that of its configuration
 pub new_image : (v : Config) (image : List ℕ) → IsNewImage v image → IsImage v image

@@ -17,6 +17,6 @@ mod write;
 pub use config::{CONFIG_LIMIT, Config, KEY_SEED_SIZE};
 pub use fault::{ConfigFault, MountFault};
 pub use head::{HEAD_SIZE, LAYOUT};
-pub use image::image_of;
+pub use image::{image_of, journal_of};
 pub use laws::one_image;
 pub use load::load_config;
