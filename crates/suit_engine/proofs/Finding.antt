@@ -8,7 +8,7 @@ use Rattle.suit_engine.specs.declared.outcome.Word.TheVariants.{Payload}
 use Rattle.suit_engine.specs.declared.state.State.{State}
 use Rattle.suit_engine.specs.declared.world.Found.{Found}
 use Rattle.suit_engine.specs.declared.world.Found.TheVariants.{Bytes, Unknown, TooMany}
-use Rattle.suit_engine.specs.Steps.{Step, Fails, Act}
+use Rattle.suit_engine.specs.Steps.{Fails, Act}
 use Rattle.suit_engine.specs.Acts.{World, takes, attached_bytes, attached_as, fetched_as, takes_fetched, fetches}
 use Rattle.suit_engine.specs.Answers.{FindsAs}
 

@@ -3,4 +3,9 @@ mod Parts
 mod Tries
 mod Finding
 mod Stays
+mod Suspending
+mod Goings
+mod Levels
+mod Engines
 mod Whole
+pub mod Public

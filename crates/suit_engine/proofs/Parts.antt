@@ -4,7 +4,7 @@ use Rattle.std.proofs.lemmas.List.{set_past}
 use Rattle.suit_engine.specs.declared.state.Part.{Part}
 use Rattle.suit_engine.specs.declared.state.State.{State}
 use Rattle.suit_engine.specs.States.{with_current}
-use Rattle.suit_engine.specs.Steps.{Step, Went}
+use Rattle.suit_engine.specs.Steps.{Went}
 
 -- nothing is set in it
 pub absent : (s : State) (part : Part) → length s.parts ≤ s.index → Went (with_current s part) ≡ Went s

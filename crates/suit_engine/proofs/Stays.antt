@@ -1,9 +1,9 @@
 -- Where more was fetched, a run does what it did, unless it stopped for want of a payload; and what it needs is an address for which nothing was fetched.
-use Rattle.std.proofs.Common.{◌≡◌, ◌≢◌, ℕ, zero, suc, ◌+◌, ◌<◌, ◌≤◌, Bool, true, false, cond, List, [], ◌∷◌, ◌++◌, length, get_or, map, Option, Some, None, refl, sym, ap, subst, ◌∙◌, arith}
-use Rattle.std.specs.Prelude.{◌==◌, nat_le, slice_index, if◌then◌else◌}
+use Rattle.std.proofs.Common.{◌≡◌, ◌≢◌, ℕ, zero, suc, Bool, true, false, cond, List, [], ◌∷◌, ◌++◌, length, map, Option, Some, None, refl, sym, ap, subst, ◌∙◌, arith}
+use Rattle.std.specs.Prelude.{◌==◌, nat_le, slice_index}
 use Rattle.std.specs.Option.{option_or}
-use Rattle.std.specs.List.{find, All}
-use Rattle.std.specs.Cmp.Lexicographic.{pointwise, other_text}
+use Rattle.std.specs.List.{All}
+use Rattle.std.specs.Cmp.Lexicographic.{other_text}
 use Rattle.std.proofs.lemmas.List.Folds.{find-append}
 use Rattle.base_types.specs.declared.limits.TheConstants.{PAYLOAD_LIMIT, FETCHES_LIMIT}
 use Rattle.fetch_uri.specs.Tests.{is_address}
@@ -11,7 +11,7 @@ use Rattle.fetch_uri.proofs.Public.Tests.{is_address_iff}
 use Rattle.suit_commands.specs.declared.command.Command.{Command}
 use Rattle.suit_commands.specs.declared.command.Command.TheOpen.{Command-F}
 use Rattle.suit_commands.specs.declared.command.Command.TheViews.{roll-Command}
-use Rattle.suit_commands.specs.declared.command.Command.TheFolds.{map-Command, fold-Command, fold-roll-Command, ind-Command}
+use Rattle.suit_commands.specs.declared.command.Command.TheFolds.{map-Command, fold-roll-Command, ind-Command}
 use Rattle.suit_commands.specs.Sequences.{Sequence}
 use Rattle.suit_engine.specs.declared.outcome.Fetched.{Fetched}
 use Rattle.suit_engine.specs.declared.outcome.Word.{Word}
@@ -19,7 +19,7 @@ use Rattle.suit_engine.specs.declared.outcome.Word.TheVariants.{Condition, Paylo
 use Rattle.suit_engine.specs.declared.state.State.{State}
 use Rattle.suit_engine.specs.States.{current}
 use Rattle.suit_engine.specs.Steps.{Step, Went, Fails, Needs, Act, and_then, in_turn, unless_caught, tried}
-use Rattle.suit_engine.specs.Acts.{World, are_same, is_set_to, is_right, only_if, takes, source_bytes, attached_bytes, attached_as, fetched_as, takes_fetched, fetches, fetches_from, act_by, does, do_all}
+use Rattle.suit_engine.specs.Acts.{World, later, are_same, is_set_to, is_right, only_if, takes, source_bytes, attached_bytes, attached_as, fetched_as, takes_fetched, fetches_from, act_by, does, do_all}
 use Rattle.suit_engine.specs.Law.{IsAwaited}
 
 -- a URI that can be fetched, and for which nothing is found
@@ -41,14 +41,14 @@ module _ (env : List Fetched) where
 
   -- ---- acts in turn, and alternatives
 
-  keeps_then : (a b : Act) → KeepsAct a b → (x y : Step) → Keeps env x y → Keeps env (and_then a x) (and_then b y)
+  pub keeps_then : (a b : Act) → KeepsAct a b → (x y : Step) → Keeps env x y → Keeps env (and_then a x) (and_then b y)
   keeps_then a b next (Went s) y is = let P : Step → Type 0 = λ z. Keeps env (a s) (and_then b z) in subst P (sym is) (next s)
   keeps_then a b next (Fails Condition) y is = ap (and_then b) is
   keeps_then a b next (Fails Payload) y is = ap (and_then b) is
   keeps_then a b next (Fails Fetches) y is = tt
   keeps_then a b next (Needs uri) y is = is
 
-  keeps_unless : (a b : Word → Step) → ((word : Word) → Keeps env (a word) (b word)) → (x y : Step) → Keeps env x y → Keeps env (unless_caught a x) (unless_caught b y)
+  pub keeps_unless : (a b : Word → Step) → ((word : Word) → Keeps env (a word) (b word)) → (x y : Step) → Keeps env x y → Keeps env (unless_caught a x) (unless_caught b y)
   keeps_unless a b next (Went s) y is = ap (unless_caught b) is
   keeps_unless a b next (Fails Condition) y is = let P : Step → Type 0 = λ z. Keeps env (a Condition) (unless_caught b z) in subst P (sym is) (next Condition)
   keeps_unless a b next (Fails Payload) y is = let P : Step → Type 0 = λ z. Keeps env (a Payload) (unless_caught b z) in subst P (sym is) (next Payload)
@@ -85,10 +85,6 @@ module _ (env : List Fetched) where
   keeps_takes None s = refl
   keeps_takes (Some bytes) s = keeps_test (nat_le (length bytes) PAYLOAD_LIMIT) s _
 
--- the same with more that was fetched
-abbrev pub later : World → List Fetched → World
-later w more = record w { env = w.env ++ more }
-
 module _ (w : World) (more : List Fetched) where
   no_room : (full : Bool) (uri : List ℕ) (next : Step) → is_address uri ≡ true → fetched_as uri w.env ≡ None → Keeps w.env (cond full (Fails Fetches) (Needs uri)) next
   no_room true uri next address missed = tt
@@ -111,7 +107,7 @@ module _ (w : World) (more : List Fetched) where
   keeps_named uri true s = keeps_takes w.env (attached_bytes (attached_as uri w.attached)) s
   keeps_named uri false s = keeps_address uri (is_address uri) refl s
 
-  keeps_from : (o : Option (List ℕ)) (s : State) → Keeps w.env (fetches_from w o s) (fetches_from (later w more) o s)
+  pub keeps_from : (o : Option (List ℕ)) (s : State) → Keeps w.env (fetches_from w o s) (fetches_from (later w more) o s)
   keeps_from None s = refl
   keeps_from (Some uri) s = keeps_named uri (slice_index uri 0 == 35) s
 

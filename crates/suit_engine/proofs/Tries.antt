@@ -1,7 +1,7 @@
 -- What a try-each does is what it tries.
 use Rattle.std.proofs.Common.{◌≡◌, Bool, List, [], ◌∷◌, map, refl, sym, ap, subst, ◌∙◌}
 use Rattle.std.specs.Prelude.{Result}
-use Rattle.suit_commands.specs.declared.command.Command.{Command}
+use Rattle.suit_commands.specs.declared.command.Command.{Command, out-Command}
 use Rattle.suit_commands.specs.declared.command.Command.TheOpen.{Command-F}
 use Rattle.suit_commands.specs.declared.command.Command.TheVariants as c
 use Rattle.suit_commands.specs.declared.command.Command.TheFolds.{fold-roll-Command}
@@ -23,12 +23,14 @@ tries_are w sequences null_last s =
     ∙ ap (λ (a : Act). a s) (fold-roll-Command Act (act_by w) (Command-F.TryEach sequences null_last))
     ∙ ap (λ (acts : List Act). tried null_last Condition acts s) (mapped_twice w sequences)
 
+-- what a command tries is what it does
+pub tries_do : (w : World) (command : Command) (sequences : List Sequence) (null_last : Bool) (s : State) → command ≡ c.TryEach sequences null_last
+    → tries w command 0 Condition s ≡ does w command s
+tries_do w command sequences null_last s is =
+    ap (λ (l : Command-F Command). tries_by w 0 Condition l s) (ap out-Command is ∙ c.outs-TryEach sequences null_last)
+    ∙ sym (ap (λ (x : Command). does w x s) is ∙ tries_are w sequences null_last s)
+
 -- what is answered for what it tries is answered for it
 pub tries_give : (w : World) (command : Command) (sequences : List Sequence) (null_last : Bool) (s : State) (r : Result State Stop) → command ≡ c.TryEach sequences null_last
-    → Gives (tries w command s) r → Gives (does w command s) r
-tries_give w command sequences null_last s r is gives =
-    let P : Command → Type 0 = λ x. Gives (tries w x s) r in
-    let L : Command-F Command → Type 0 = λ x. Gives (tries_by w x s) r in
-    let opened : Gives (tried null_last Condition (map (do_all w) sequences) s) r = subst L (c.outs-TryEach sequences null_last) (subst P is gives) in
-    let Q : Step → Type 0 = λ x. Gives x r in
-    subst Q (sym (ap (λ (x : Command). does w x s) is ∙ tries_are w sequences null_last s)) opened
+    → Gives (tries w command 0 Condition s) r → Gives (does w command s) r
+tries_give w command sequences null_last s r is gives = let P : Step → Type 0 = λ x. Gives x r in subst P (tries_do w command sequences null_last s is) gives

@@ -1,20 +1,15 @@
 -- What holds of whole runs.
-use Rattle.std.proofs.Common.{◌≡◌, ℕ, List, ◌++◌, map, refl, sym, ap, subst, ◌∙◌}
-use Rattle.evidence.specs.declared.ids.DeviceIds.{DeviceIds}
-use Rattle.suit_envelope.specs.declared.envelope.Attached.{Attached}
+use Rattle.std.proofs.Common.{◌≡◌, ℕ, List, refl, sym, ap, subst, ◌∙◌}
 use Rattle.suit_envelope.specs.declared.plan.Plan.{Plan}
 use Rattle.suit_engine.specs.declared.outcome.Built.{Built}
 use Rattle.suit_engine.specs.declared.outcome.Fetched.{Fetched}
-use Rattle.suit_engine.specs.declared.outcome.Outcome.{Outcome}
-use Rattle.suit_engine.specs.declared.outcome.Outcome.TheVariants.{Done, Need, Failed}
-use Rattle.suit_engine.specs.declared.outcome.Word.TheVariants.{Condition, Payload, Fetches}
-use Rattle.suit_engine.specs.declared.pass.Pass.{Pass}
+use Rattle.suit_engine.specs.declared.outcome.Outcome.TheVariants.{Done, Need}
 use Rattle.suit_engine.specs.States.{at_index}
 use Rattle.suit_engine.specs.Steps.{Step, Went, Fails, Needs}
-use Rattle.suit_engine.specs.Acts.{World}
-use Rattle.suit_engine.specs.Runs.{sequence_of, passes, pass_does, beginning, built, outcome_of, run, Runs}
-use Rattle.suit_engine.specs.Law.{IsAwaited, OneOutcome, DoneStays, NeedsAnAddress}
-use Rattle.suit_engine.proofs.Stays.{IsUnknown, Keeps, keeps_turn, later, kept_sequence, awaited}
+use Rattle.suit_engine.specs.Acts.{World, later}
+use Rattle.suit_engine.specs.Runs.{sequence_of, passes, pass_does, beginning, outcome_of, run, Runs}
+use Rattle.suit_engine.specs.Law.{OneOutcome, DoneStays, NeedsAnAddress}
+use Rattle.suit_engine.proofs.Stays.{IsUnknown, Keeps, keeps_turn, kept_sequence, awaited}
 
 pub one_outcome : OneOutcome
 unfolding Runs

@@ -1,6 +1,5 @@
 -- What each command does (draft-ietf-suit-manifest, "SUIT_Command_Sequence").
-use Rattle.std.specs.Prelude.{ℕ, Bool, true, false, ◌&&◌, ◌==◌, nat_eq, nat_le, List, length, map, slice_index, Option, Some, None, if◌then◌else◌}
-use Rattle.std.specs.Option.{option_or}
+use Rattle.std.specs.Prelude.{ℕ, Bool, true, false, ◌&&◌, ◌==◌, nat_eq, nat_le, List, ◌++◌, length, map, slice_index, Option, Some, None, if◌then◌else◌}
 use Rattle.std.specs.List.{find}
 use Rattle.std.specs.Cmp.Lexicographic.{pointwise}
 use Rattle.base_types.specs.declared.limits.TheConstants.{PAYLOAD_LIMIT, FETCHES_LIMIT}
@@ -18,13 +17,17 @@ use Rattle.suit_engine.specs.declared.outcome.Word.TheVariants.{Condition, Paylo
 use Rattle.suit_engine.specs.declared.state.Part.{Part}
 use Rattle.suit_engine.specs.declared.state.State.{State}
 use Rattle.suit_engine.specs.States.{part_at, current, at_index, with_current, with_bytes, with_given}
-use Rattle.suit_engine.specs.Steps.{Step, Went, Fails, Needs, Act, in_turn, tried}
+use Rattle.suit_engine.specs.Steps.{Went, Fails, Needs, Act, in_turn, tried}
 
 -- what a run has around it: the payloads in the envelope, the device, and what was fetched
 pub record World : Type 0 where
   pub attached : List Attached
   pub device : DeviceIds
   pub env : List Fetched
+
+-- the same with more that was fetched behind
+abbrev pub later : World → List Fetched → World
+later w more = record w { env = w.env ++ more }
 
 -- the same bytes
 abbrev pub are_same : List ℕ → List ℕ → Bool

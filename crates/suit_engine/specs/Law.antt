@@ -9,7 +9,9 @@ use Rattle.suit_engine.specs.declared.outcome.Built.{Built}
 use Rattle.suit_engine.specs.declared.outcome.Fetched.{Fetched}
 use Rattle.suit_engine.specs.declared.outcome.Outcome.{Outcome}
 use Rattle.suit_engine.specs.declared.outcome.Outcome.TheVariants.{Done, Need}
+use Rattle.suit_engine.specs.Contents.{Contents}
 use Rattle.suit_engine.specs.Runs.{Runs}
+use Rattle.suit_engine.specs.Suspended.{GoesOn}
 
 -- the one outcome that has a property
 pub record IsOnly (P : Outcome → Type 0) : Type 0 where
@@ -35,3 +37,7 @@ pub record IsAwaited (env : List Fetched) (uri : List ℕ) : Type 0 where
 abbrev pub NeedsAnAddress : Type 0
 NeedsAnAddress = (count : ℕ) (plan : Plan) (attached : List Attached) (device : DeviceIds) (env : List Fetched) (uri : List ℕ)
     → Runs count plan attached device env (Need uri) → IsAwaited env uri
+
+-- an engine that goes on with some entries as a run from the start goes, does so with more behind them
+abbrev pub WaitsOn : Type 0
+WaitsOn = (e : Contents) (env more : List Fetched) → GoesOn e env → GoesOn e (env ++ more)

@@ -1,7 +1,10 @@
 pub mod States
 pub mod Steps
 pub mod Acts
-pub mod Runs
-pub mod Answers
+pub mod Places
 pub mod Passes
+pub mod Contents
+pub mod Runs
+pub mod Suspended
+pub mod Answers
 pub mod Law

@@ -4,7 +4,6 @@ use Rattle.evidence.specs.declared.ids.DeviceIds.{DeviceIds}
 use Rattle.suit_commands.specs.Sequences.{Sequence}
 use Rattle.suit_envelope.specs.declared.envelope.Attached.{Attached}
 use Rattle.suit_envelope.specs.declared.plan.Plan.{Plan}
-use Rattle.suit_engine.specs.declared.engine.Engine.{Engine}
 use Rattle.suit_engine.specs.declared.outcome.Built.{Built}
 use Rattle.suit_engine.specs.declared.outcome.Fetched.{Fetched}
 use Rattle.suit_engine.specs.declared.outcome.Outcome.{Outcome}
@@ -16,6 +15,7 @@ use Rattle.suit_engine.specs.declared.state.State.{State}
 use Rattle.suit_engine.specs.States.{untouched, at_index}
 use Rattle.suit_engine.specs.Steps.{Step, Went, Fails, Needs, Act, in_turn}
 use Rattle.suit_engine.specs.Acts.{World, do_all}
+use Rattle.suit_engine.specs.Contents.{Contents}
 
 -- the sequence of a pass
 abbrev pub sequence_of : Plan → Pass → Sequence
@@ -34,13 +34,17 @@ passes = SharedBeforeFetch ∷ Fetch ∷ SharedBeforeInstall ∷ Install ∷ Sha
 abbrev pub pass_does : World → Plan → Pass → Act
 pass_does w plan pass s = do_all w (sequence_of plan pass) (at_index 0 s)
 
+-- passes in turn
+abbrev pub passes_do : World → Plan → List Pass → Act
+passes_do w plan some = in_turn (map (pass_does w plan) some)
+
 -- so many components of which nothing is known
 abbrev pub beginning : ℕ → State
 beginning count = record { index = 0; parts = replicate count untouched }
 
--- the passes in turn, from the beginning
+-- all passes, from the beginning
 abbrev pub run : World → Plan → ℕ → Step
-run w plan count = in_turn (map (pass_does w plan) passes) (beginning count)
+run w plan count = passes_do w plan passes (beginning count)
 
 -- what is told of a component
 abbrev pub built : Part → Built
@@ -57,12 +61,16 @@ unfoldable pub Runs : ℕ → Plan → List Attached → DeviceIds → List Fetc
 Runs count plan attached device env outcome = outcome_of (run (record { attached = attached; device = device; env = env }) plan count) ≡ outcome
 
 -- what an engine is for
-pub record IsFor (e : Engine) (count : ℕ) (plan : Plan) (attached : List Attached) (device : DeviceIds) : Type 0 where
+pub record IsFor (e : Contents) (count : ℕ) (plan : Plan) (attached : List Attached) (device : DeviceIds) : Type 0 where
   pub count_is : e.count ≡ count
   pub plan_is : e.plan ≡ plan
   pub attached_is : e.attached ≡ attached
   pub device_is : e.device ≡ device
 
+-- both are for the same
+abbrev pub SameRun : Contents → Contents → Type 0
+SameRun old new = IsFor new old.count old.plan old.attached old.device
+
 -- the outcome of what an engine is for
-abbrev pub RunsFor : Engine → List Fetched → Outcome → Type 0
+abbrev pub RunsFor : Contents → List Fetched → Outcome → Type 0
 RunsFor e env outcome = Runs e.count e.plan e.attached e.device env outcome

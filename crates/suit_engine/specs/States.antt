@@ -1,5 +1,5 @@
 -- What a run holds: which component is the current one, and what is known of each.
-use Rattle.std.specs.Prelude.{ℕ, List, slice_index_or, slice_set, Option, Some, None}
+use Rattle.std.specs.Prelude.{ℕ, List, slice_index_or, slice_set, Option, None}
 use Rattle.std.specs.Option.{option_or}
 use Rattle.suit_commands.specs.declared.parameters.Parameters.{Parameters}
 use Rattle.suit_engine.specs.declared.state.Setting.{Setting}

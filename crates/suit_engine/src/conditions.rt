@@ -3,7 +3,7 @@ ghost use Rattle.std.specs.Option.{option_copied};
 ghost use Rattle.suit_engine.specs.Acts.{has_size, is_image, is_right, only_if};
 ghost use Rattle.suit_engine.specs.Acts as Acts;
 ghost use Rattle.suit_engine.specs.States.{current};
-ghost use Rattle.suit_engine.specs.Answers.{Gives};
+ghost use Rattle.suit_engine.specs.Answers.{Gives, NeverWaits};
 
 use crate::outcome::Word;
 use crate::shared::Slot;
@@ -15,7 +15,8 @@ use suit_commands::Digest;
 
 /// The state, where a condition holds.
 pub(crate) fn only_if(holds: bool, state: State) -> Result<State, Stop>
-    ensures { Gives (only_if holds state) result }
+    ensures gives { Gives (only_if holds state) result }
+    ensures waits { NeverWaits result }
 {
     if holds {
         Ok(state)

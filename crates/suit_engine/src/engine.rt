@@ -1,22 +1,25 @@
-ghost use Rattle.std.specs.Prelude.{◌≡◌, IfOk, length, map};
-ghost use Rattle.suit_engine.specs.Runs.{built, RunsFor, IsFor, outcome_of};
+ghost use Rattle.std.specs.Prelude.{◌≡◌, IfOk, None, length, map};
+ghost use Rattle.suit_engine.specs.Runs.{built, run, outcome_of, RunsFor, IsFor, SameRun};
 ghost use Rattle.suit_engine.specs.Steps.{Step};
-ghost use Rattle.suit_engine.specs.Answers.{Gives};
+ghost use Rattle.suit_engine.specs.Suspended.{pass_goes_on, run_of, world_of, GoesOn, WaitsAfter};
+ghost use Rattle.suit_engine.specs.Answers.{GivesPass, SuspendsPass, waiting_after};
 
 use crate::outcome::{Built, Env, Outcome};
 use crate::pass::Pass;
-use crate::passes::run_passes;
+use crate::passes::{go_on, run_passes};
+use crate::place::Waiting;
 use crate::shared::Slot;
 use crate::state::{Part, State, copied};
-use crate::stop::Stop;
+use crate::stop::{Stop, Stopped};
 use crate::world::{Around, Payload, payloads};
 use base_types::{List, NoMemory, Octets, OrMemory};
 use evidence::DeviceIds;
 use std::alloc::Global;
+use std::marker::Model;
 use suit_commands::Digest;
 use suit_envelope::{Attached, Manifest, Plan};
 
-/// The run of one manifest, which may be repeated as payloads come in.
+/// The run of one manifest, which waits where it needs a payload and goes on once that is known.
 #[derive(Drop)]
 pub struct Engine {
     alloc: Global,
@@ -24,6 +27,21 @@ pub struct Engine {
     plan: Plan,
     attached: List<Payload>,
     device: DeviceIds,
+    waiting: Option<Waiting>,
+}
+
+impl Model for Engine {
+    ghost use Rattle.suit_engine.specs.Contents.{Contents};
+
+    ghost Value = { Contents };
+
+    ghost use Rattle.std.specs.Coded.{codes};
+    ghost use Rattle.suit_commands.specs.contracts.command.Command as command;
+    ghost use Rattle.suit_engine.specs.contracts.place.Place as place;
+
+    ghost coded = { Prim.hlevel (codes, command.the_row.coded, place.the_row.coded) };
+
+    ghost view = { λ it. record { count = it.count; plan = it.plan; attached = it.attached; device = it.device; waiting = it.waiting } };
 }
 
 /// A copy of a device's identifiers.
@@ -87,7 +105,8 @@ fn all_built(alloc: Global, parts: &[Part]) -> OrMemory<List<Built>>
 
 impl Engine {
     /// An engine for a manifest: its plan, the payloads that are attached to its envelope, and the device
-    /// that it runs on. Payloads and identifiers are copied. Refused for want of memory alone.
+    /// that it runs on. Nothing waits in it. Payloads and identifiers are copied. Refused for want of
+    /// memory alone.
     pub fn start(
         alloc: Global,
         manifest: &Manifest,
@@ -95,7 +114,8 @@ impl Engine {
         attached: &List<Attached>,
         device: &DeviceIds,
     ) -> OrMemory<Engine>
-        ensures { IfOk result (λ e. IsFor e (length manifest.now.components) plan attached.now device.now) }
+        ensures made { IfOk result (λ e. IsFor e (length manifest.now.components) plan attached.now device.now) }
+        ensures fresh { IfOk result (λ e. e.waiting ≡ None) }
     {
         let attached = payloads(alloc, attached)?;
         let device = copied_ids(alloc, device)?;
@@ -105,44 +125,120 @@ impl Engine {
             plan,
             attached,
             device,
+            waiting: None,
         })
     }
 
-    /// Runs the manifest from the start, with what was fetched so far.
+    /// Runs the manifest from the start, with what was fetched so far (draft-ietf-suit-manifest,
+    /// "Abstract Machine"). A run that waited is forgotten.
     ///
     /// `Done` with what each component has, in the order of the manifest's components. `Need` where a
     /// payload is needed that is not attached and was not fetched yet: the URI has the form of
-    /// `fetch_uri` and none of the entries has it. `Failed` with the word of what failed: `Condition` for
-    /// a condition that does not hold and for an abort; `Payload` where a URI, its payload, the content or
-    /// the source's bytes are missing, where a fetch failed, or where the bytes are above `PAYLOAD_LIMIT`;
-    /// `Fetches` where a payload is needed and 16 entries are there. A try-each catches the first two
-    /// words alone. Refused for want of memory alone. The engine is as before in any case. The work is
-    /// linear in the sequences that are run, beside the hashes; each payload that is attached or fetched
-    /// is copied into a component once for its outcome, and a fetched one once more.
-    pub fn go(&self, env: &Env) -> OrMemory<Outcome>
+    /// `fetch_uri` and none of the entries has it. The run then waits in the engine, for `resume`.
+    /// `Failed` with the word of what failed: `Condition` for a condition that does not hold and for an
+    /// abort; `Payload` where a URI, its payload, the content or the source's bytes are missing, where a
+    /// fetch failed, or where the bytes are above `PAYLOAD_LIMIT`; `Fetches` where a payload is needed and
+    /// 16 entries are there. A try-each catches the first two words alone. After `Done` and `Failed`
+    /// nothing waits. Refused for want of memory alone, and nothing waits then.
+    ///
+    /// The work is linear in the sequences that are run, beside the hashes. A payload that is fetched is
+    /// copied once when it is fetched, and an attached one was copied at `start`; each is copied once
+    /// more into the outcome.
+    pub fn go(&mut self, env: &Env) -> OrMemory<Outcome>
         // It is the outcome of the run.
-        ensures { IfOk result (RunsFor self.now env.now) }
+        ensures outcome { IfOk result (RunsFor self.old env.now) }
+        // The engine is for the same.
+        ensures same { SameRun self.old self.new }
+        // From where it waits it goes on, with these entries and any behind them, as a run from the start goes.
+        ensures waits { GoesOn self.new env.now }
+        // It waits exactly where a payload is needed.
+        ensures suspended { WaitsAfter result self.new }
     {
-        let world = Around {
+        self.waiting = None;
+        let answer = self.run(env);
+        self.leave(answer)
+    }
+
+    /// Goes on from where the run waits, with what was fetched so far; where nothing waits, runs the
+    /// manifest from the start.
+    ///
+    /// The entries are those of the call before, and behind them what came since: with the law
+    /// `waits_on` the `ensures` of that call gives the `requires` of this one. The outcome is that of a
+    /// run from the start, as `go` tells it, and so is what waits afterwards. Refused for want of memory
+    /// alone; nothing waits then, and the next call runs from the start.
+    ///
+    /// The work is that of the command that waited and of those behind it: no command that was done is
+    /// done again, and no payload that a component has is copied or hashed again but into the outcome.
+    pub fn resume(&mut self, env: &Env) -> OrMemory<Outcome>
+        // From where it waits it goes on, with these entries, as a run from the start goes.
+        requires { GoesOn self.old env.now }
+        // It is the outcome of the run.
+        ensures outcome { IfOk result (RunsFor self.old env.now) }
+        // The engine is for the same.
+        ensures same { SameRun self.old self.new }
+        // From where it waits it goes on, with these entries and any behind them, as a run from the start goes.
+        ensures waits { GoesOn self.new env.now }
+        // It waits exactly where a payload is needed.
+        ensures suspended { WaitsAfter result self.new }
+    {
+        let Some(waiting) = self.waiting.take() else {
+            return self.go(env);
+        };
+        let answer = self.go_on(env, waiting);
+        self.leave(answer)
+    }
+
+    /// What a run has around it.
+    fn around<'a>(&'a self, env: &'a Env) -> Around<'a>
+        ensures { result ≡ world_of self.now env.now }
+    {
+        Around {
             alloc: self.alloc,
             attached: self.attached.as_slice(),
             device: &self.device,
             env: env.as_slice(),
-        };
-        let state = State::beginning(self.alloc, self.count)?;
-        let answer = run_passes(&self.plan, &world, Pass::SharedBeforeFetch, state);
-        outcome_of(self.alloc, answer)
+        }
     }
-}
 
-/// What is told of a run that ended so.
-fn outcome_of(alloc: Global, answer: Result<State, Stop>) -> OrMemory<Outcome>
-    ensures { (step : Step) → Gives step answer → IfOk result (λ o. outcome_of step ≡ o) }
-{
-    match answer {
-        Ok(state) => Ok(Outcome::Done(all_built(alloc, state.parts.as_slice())?)),
-        Err(Stop::Failed(word)) => Ok(Outcome::Failed(word)),
-        Err(Stop::Needed(uri)) => Ok(Outcome::Need(uri)),
-        Err(Stop::NoMemory) => Err(NoMemory),
+    /// Runs all passes.
+    fn run(&self, env: &Env) -> Result<State, Stopped>
+        ensures gives { GivesPass (run_of self.now env.now) result }
+        ensures waits { SuspendsPass (world_of self.now env.now) self.now.plan (λ w. run w self.now.plan self.now.count) result }
+    {
+        match State::beginning(self.alloc, self.count) {
+            Ok(state) => run_passes(&self.plan, &self.around(env), state),
+            Err(NoMemory) => Err(Stopped {
+                pass: Pass::SharedBeforeFetch,
+                stop: Stop::NoMemory,
+            }),
+        }
+    }
+
+    /// Goes on where a run waits.
+    fn go_on(&self, env: &Env, waiting: Waiting) -> Result<State, Stopped>
+        ensures gives { GivesPass (pass_goes_on (world_of self.now env.now) self.now.plan waiting.pass waiting.place) result }
+        ensures waits { SuspendsPass (world_of self.now env.now) self.now.plan (λ w. pass_goes_on w self.now.plan waiting.pass waiting.place) result }
+    {
+        go_on(&self.plan, &self.around(env), waiting)
+    }
+
+    /// Keeps where a run waits, and tells what came of it.
+    fn leave(&mut self, answer: Result<State, Stopped>) -> OrMemory<Outcome>
+        requires { self.old.waiting ≡ None }
+        ensures outcome { (step : Step) → GivesPass step answer → IfOk result (λ o. outcome_of step ≡ o) }
+        ensures left { self.new ≡ record self.old { waiting = waiting_after answer } }
+        ensures suspended { WaitsAfter result self.new }
+    {
+        match answer {
+            Ok(state) => Ok(Outcome::Done(all_built(self.alloc, state.parts.as_slice())?)),
+            Err(Stopped { pass, stop }) => match stop {
+                Stop::Failed(word) => Ok(Outcome::Failed(word)),
+                Stop::Needed(uri, place) => {
+                    self.waiting = Some(Waiting { pass, place });
+                    Ok(Outcome::Need(uri))
+                }
+                Stop::NoMemory => Err(NoMemory),
+            },
+        }
     }
 }

@@ -1,4 +1,4 @@
-ghost use Rattle.suit_engine.specs.Law.{DoneStays, NeedsAnAddress, OneOutcome};
+ghost use Rattle.suit_engine.specs.Law.{DoneStays, NeedsAnAddress, OneOutcome, WaitsOn};
 
 /// A run has exactly one outcome.
 pub fn one_outcome()
@@ -13,4 +13,9 @@ pub fn done_stays()
 /// A URI that a run needs is the address of a payload, and nothing was fetched for it yet.
 pub fn needs_an_address()
     ensures { NeedsAnAddress }
+{}
+
+/// An engine that goes on with some entries goes on with more behind them.
+pub fn waits_on()
+    ensures { WaitsOn }
 {}

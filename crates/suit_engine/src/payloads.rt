@@ -2,9 +2,10 @@ ghost use Rattle.std.specs.Prelude.{◌≡◌, IfOk};
 ghost use Rattle.suit_engine.specs.Acts.{takes, source_bytes, fetches_from};
 ghost use Rattle.suit_engine.specs.Steps.{Went};
 ghost use Rattle.suit_engine.specs.States.{current, with_current, with_bytes, with_given};
-ghost use Rattle.suit_engine.specs.Answers.{Gives, FindsAs};
+ghost use Rattle.suit_engine.specs.Answers.{Gives, NeverWaits, SuspendsAt, FindsAs};
 
 use crate::outcome::Word;
+use crate::place::Place;
 use crate::shared::Slot;
 use crate::state::State;
 use crate::stop::Stop;
@@ -15,7 +16,8 @@ use suit_commands::Parameters;
 
 /// The state with other bytes of the current component.
 fn with_bytes(state: State, bytes: Slot<Octets>) -> Result<State, Stop>
-    ensures { Gives (Went (with_current state (with_bytes bytes (current state)))) result }
+    ensures gives { Gives (Went (with_current state (with_bytes bytes (current state)))) result }
+    ensures waits { NeverWaits result }
 {
     match state.current() {
         Some(part) => {
@@ -28,7 +30,8 @@ fn with_bytes(state: State, bytes: Slot<Octets>) -> Result<State, Stop>
 
 /// The current component takes bytes that are there and not above the limit.
 pub(crate) fn take(state: State, bytes: Slot<Octets>) -> Result<State, Stop>
-    ensures { Gives (takes bytes state) result }
+    ensures gives { Gives (takes bytes state) result }
+    ensures waits { NeverWaits result }
 {
     match bytes.get() {
         Some(content) if content.len() <= PAYLOAD_LIMIT => with_bytes(state, bytes),
@@ -48,7 +51,8 @@ fn content(state: &State) -> OrMemory<Slot<Octets>>
 
 /// The current component takes the content that is set.
 pub(crate) fn write(state: State) -> Result<State, Stop>
-    ensures { Gives (takes (current state).setting.content state) result }
+    ensures gives { Gives (takes (current state).setting.content state) result }
+    ensures waits { NeverWaits result }
 {
     let bytes = content(&state)?;
     take(state, bytes)
@@ -79,7 +83,8 @@ fn source(state: &State) -> Option<u64>
 
 /// The current component takes the bytes of the source component.
 pub(crate) fn copy(state: State) -> Result<State, Stop>
-    ensures { Gives (takes (source_bytes (current state).setting.source state) state) result }
+    ensures gives { Gives (takes (source_bytes (current state).setting.source state) state) result }
+    ensures waits { NeverWaits result }
 {
     let bytes = bytes_of(&state, source(&state))?;
     take(state, bytes)
@@ -97,11 +102,12 @@ fn find(world: &Around<'_>, state: &State) -> OrMemory<Found>
 
 /// The current component takes the payload that its URI names, or the run needs it first.
 pub(crate) fn fetch(world: &Around<'_>, state: State) -> Result<State, Stop>
-    ensures { Gives (fetches_from world.now (current state).setting.uri state) result }
+    ensures gives { Gives (fetches_from world.now (current state).setting.uri state) result }
+    ensures waits { SuspendsAt state result }
 {
     match find(world, &state)? {
         Found::Bytes(bytes) => take(state, bytes),
-        Found::Unknown(uri) => Err(Stop::Needed(uri)),
+        Found::Unknown(uri) => Err(Stop::Needed(uri, Place::Fetch(state))),
         Found::TooMany => Err(Stop::Failed(Word::Fetches)),
     }
 }
@@ -112,7 +118,8 @@ pub(crate) fn override_parameters(
     given: &Parameters,
     state: State,
 ) -> Result<State, Stop>
-    ensures { Gives (Went (with_current state (with_given given.now (current state)))) result }
+    ensures gives { Gives (Went (with_current state (with_given given.now (current state)))) result }
+    ensures waits { NeverWaits result }
 {
     match state.current() {
         Some(part) => {

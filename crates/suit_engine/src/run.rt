@@ -1,5 +1,7 @@
+ghost use Rattle.std.specs.Prelude.{drop};
 ghost use Rattle.suit_engine.specs.Acts.{does, do_all};
-ghost use Rattle.suit_engine.specs.Answers.{Gives, tries};
+ghost use Rattle.suit_engine.specs.Places.{sequence_goes_on, command_goes_on};
+ghost use Rattle.suit_engine.specs.Answers.{Gives, Suspends, tries};
 
 use crate::conditions::{is_class, is_device, is_image, is_vendor, only_if};
 use crate::outcome::Word;
@@ -12,7 +14,8 @@ use suit_commands::Command;
 /// Runs a command.
 #[cycle(run)]
 fn run_command(command: &Command, world: &Around<'_>, state: State) -> Result<State, Stop>
-    ensures { Gives (does world.now command.now state) result }
+    ensures gives { Gives (does world.now command.now state) result }
+    ensures waits { Suspends world.now (λ w. command_goes_on w command.now) (λ w. does w command.now state) result }
 {
     match command {
         Command::Vendor(_) => only_if(is_vendor(&state, world.device), state),
@@ -24,31 +27,45 @@ fn run_command(command: &Command, world: &Around<'_>, state: State) -> Result<St
         Command::Fetch(_) => fetch(world, state),
         Command::Copy(_) => copy(state),
         Command::SetIndex(index) => Ok(state.at_index(*index)),
-        Command::TryEach { .. } => try_each(command, world, state),
+        Command::TryEach { .. } => try_from(command, 0, Word::Condition, world, state),
         Command::Override(given) => override_parameters(world.alloc, given, state),
-        Command::RunSequence(commands) => run_all(commands.as_slice(), world, state),
+        Command::RunSequence(commands) => run_from(commands.as_slice(), 0, world, state),
     }
 }
 
-/// Runs commands in turn.
+/// Runs the commands from a number on, in turn.
 #[cycle(run)]
-pub(crate) fn run_all(commands: &[Command], world: &Around<'_>, state: State) -> Result<State, Stop>
-    ensures { Gives (do_all world.now commands.now state) result }
+pub(crate) fn run_from(
+    commands: &[Command],
+    first: usize,
+    world: &Around<'_>,
+    state: State,
+) -> Result<State, Stop>
+    ensures gives { Gives (do_all world.now (drop first commands.now) state) result }
+    ensures waits { Suspends world.now (λ w. sequence_goes_on w commands.now) (λ w. do_all w (drop first commands.now) state) result }
 {
     let mut state = state;
-    for command in commands {
-        match run_command(command, world, state) {
+    for number in first..commands.len() {
+        match run_command(&commands[number], world, state) {
             Ok(next) => state = next,
-            Err(stop) => return Err(stop),
+            Err(stop) => return Err(stop.at_command(world.alloc, number)),
         }
     }
     Ok(state)
 }
 
-/// Tries the alternatives of a command, each from the state before. Any other command tries nothing.
+/// Tries the alternatives of a command from a number on, each from the state before. The word is that
+/// of the alternative before them. Any other command tries nothing.
 #[cycle(run)]
-fn try_each(command: &Command, world: &Around<'_>, before: State) -> Result<State, Stop>
-    ensures { Gives (tries world.now command.now before) result }
+pub(crate) fn try_from(
+    command: &Command,
+    first: usize,
+    word: Word,
+    world: &Around<'_>,
+    before: State,
+) -> Result<State, Stop>
+    ensures gives { Gives (tries world.now command.now first word before) result }
+    ensures waits { Suspends world.now (λ w. command_goes_on w command.now) (λ w. tries w command.now first word before) result }
 {
     let Command::TryEach {
         alternatives,
@@ -57,13 +74,16 @@ fn try_each(command: &Command, world: &Around<'_>, before: State) -> Result<Stat
     else {
         return Ok(before);
     };
-    let mut word = Word::Condition;
-    for sequence in alternatives.as_slice() {
+    let alternatives = alternatives.as_slice();
+    let mut word = word;
+    for number in first..alternatives.len() {
         let state = before.share(world.alloc)?;
-        match run_all(sequence.as_slice(), world, state) {
-            Err(Stop::Failed(Word::Condition)) => word = Word::Condition,
-            Err(Stop::Failed(Word::Payload)) => word = Word::Payload,
-            answer => return answer,
+        match run_from(alternatives[number].as_slice(), 0, world, state) {
+            Ok(state) => return Ok(state),
+            Err(stop) => match stop.caught() {
+                Ok(caught) => word = caught,
+                Err(stop) => return Err(stop.at_alternative(world.alloc, number, before)),
+            },
         }
     }
     if *null_last {

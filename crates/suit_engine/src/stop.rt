@@ -1,13 +1,19 @@
+ghost use Rattle.suit_engine.specs.Answers.{CaughtAs, IsSeenFrom};
+
 use crate::outcome::Word;
+use crate::pass::Pass;
+use crate::place::Place;
+use crate::state::State;
 use base_types::{NoMemory, Utf8};
+use std::alloc::Global;
 
 /// Why a run does not go on.
 #[derive(Drop)]
 pub(crate) enum Stop {
     /// It failed.
     Failed(Word),
-    /// It needs the payload of this URI first.
-    Needed(Utf8),
+    /// It needs the payload of this URI first, and waits at this place.
+    Needed(Utf8, Place),
     /// No memory was left.
     NoMemory,
 }
@@ -21,4 +27,56 @@ impl From<NoMemory> for Stop {
     fn from(_: NoMemory) -> Stop {
         Stop::NoMemory
     }
+}
+
+impl Stop {
+    /// The word, where a try-each catches the stop, and else the stop.
+    pub(crate) fn caught(self) -> Result<Word, Stop>
+        ensures { CaughtAs self result }
+    {
+        match self {
+            Stop::Failed(Word::Condition) => Ok(Word::Condition),
+            Stop::Failed(Word::Payload) => Ok(Word::Payload),
+            Stop::Failed(Word::Fetches) => Err(Stop::Failed(Word::Fetches)),
+            Stop::Needed(uri, place) => Err(Stop::Needed(uri, place)),
+            Stop::NoMemory => Err(Stop::NoMemory),
+        }
+    }
+
+    /// The stop of a command, seen from the sequence. Memory may run out.
+    pub(crate) fn at_command(self, alloc: Global, number: usize) -> Stop
+        ensures { IsSeenFrom (λ place. Place.Command number place) self result }
+    {
+        match self {
+            Stop::Failed(word) => Stop::Failed(word),
+            Stop::Needed(uri, within) => match Place::at_command(alloc, number, within) {
+                Ok(place) => Stop::Needed(uri, place),
+                Err(NoMemory) => Stop::NoMemory,
+            },
+            Stop::NoMemory => Stop::NoMemory,
+        }
+    }
+
+    /// The stop of an alternative, seen from the try-each that began in the state. Memory may run out.
+    pub(crate) fn at_alternative(self, alloc: Global, number: usize, before: State) -> Stop
+        ensures { IsSeenFrom (λ place. Place.Alternative number before place) self result }
+    {
+        match self {
+            Stop::Failed(word) => Stop::Failed(word),
+            Stop::Needed(uri, within) => {
+                match Place::at_alternative(alloc, number, before, within) {
+                    Ok(place) => Stop::Needed(uri, place),
+                    Err(NoMemory) => Stop::NoMemory,
+                }
+            }
+            Stop::NoMemory => Stop::NoMemory,
+        }
+    }
+}
+
+/// In which pass a run stopped, and why.
+#[derive(Drop)]
+pub(crate) struct Stopped {
+    pub(crate) pass: Pass,
+    pub(crate) stop: Stop,
 }

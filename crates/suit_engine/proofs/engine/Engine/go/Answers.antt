@@ -1,19 +1,22 @@
-use Rattle.std.proofs.Common.{List, map, subst}
-use Rattle.suit_envelope.specs.declared.envelope.Attached.{Attached}
-use Rattle.suit_engine.specs.declared.outcome.Fetched.{Fetched}
-use Rattle.suit_engine.specs.declared.state.State.{State}
-use Rattle.suit_engine.specs.Steps.{in_turn}
-use Rattle.suit_engine.specs.Acts.{World}
-use Rattle.suit_engine.specs.Runs.{passes, pass_does, run, Runs}
-use Rattle.suit_engine.specs.Answers.{Gives}
+use Rattle.std.proofs.Common.{None, sym, subst}
+use Rattle.std.specs.Prelude.{IfOk}
+use Rattle.suit_engine.specs.Contents.{Contents}
+use Rattle.suit_engine.specs.Runs.{Runs, RunsFor}
+use Rattle.suit_engine.specs.Suspended.{run_of, GoesOn}
+use Rattle.suit_engine.proofs.Engines.{answered_goes_on}
 use Rattle.suit_engine.proofs.engine.Engine.go.Goals as goal
 
-pub returns : goal.returns
+pub returns-clause-outcome : goal.returns-clause-outcome
 unfolding Runs
-returns c =
-    let e = c.args.self.now in
-    let around : List Attached → List Fetched → World = λ attached env. record { attached = attached; device = e.device; env = env } in
-    let A : List Attached → Type 0 = λ a. Gives (in_turn (map (pass_does (around a c.as_slice-2.result.now) e.plan) passes) c.in_ok-state.state) c.run_passes-answer.result in
-    let B : List Fetched → Type 0 = λ b. Gives (in_turn (map (pass_does (around e.attached b) e.plan) passes) c.in_ok-state.state) c.run_passes-answer.result in
-    let S : State → Type 0 = λ s. Gives (in_turn (map (pass_does (around e.attached c.args.env.now) e.plan) passes) s) c.run_passes-answer.result in
-    c.outcome_of.ensures (run (around e.attached c.args.env.now) e.plan e.count) (subst S c.in_ok-state.ensures (subst B c.as_slice-2.ensures (subst A c.as_slice.ensures c.run_passes-answer.ensures)))
+returns-clause-outcome c =
+    let i = c.self.inside in
+    let fresh : Contents = record { count = i.count; plan = i.plan; attached = i.attached; device = i.device; waiting = None } in
+    let V : Contents → Type 0 = λ v. IfOk c.leave.result (RunsFor v c.args.env.now) in
+    subst V c.self.view_is (c.leave.ensures.outcome (run_of fresh c.args.env.now) c.run-answer.ensures.gives)
+
+pub returns-clause-waits : goal.returns-clause-waits
+returns-clause-waits c =
+    let i = c.self.inside in
+    let fresh : Contents = record { count = i.count; plan = i.plan; attached = i.attached; device = i.device; waiting = None } in
+    let V : Contents → Type 0 = λ v. GoesOn v c.args.env.now in
+    subst V (sym c.leave.ensures.left) (answered_goes_on fresh c.args.env.now c.run-answer.result c.run-answer.ensures.waits)
