@@ -1,5 +1,3 @@
-pub mod Links
-pub mod LinkLaws
 pub mod Ends
 pub mod Fields
 pub mod Found

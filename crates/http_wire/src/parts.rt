@@ -5,9 +5,9 @@ ghost use Rattle.outside_core.specs.Stream.{Took};
 ghost use Rattle.http_wire.specs.Ends.{Ends, EndsInEmptyLine};
 ghost use Rattle.http_wire.specs.Parts.{Heads, Bodies, ReadsByte};
 
-use crate::link::Link;
 use base_types::{Failed, Octets, zeros};
 use frames::{Budget, Fill, fill_from};
+use http_link::Link;
 use std::alloc::Global;
 
 /// The longest head of a message, in bytes.

@@ -4,11 +4,11 @@ ghost use Rattle.base_types.specs.Causes.{CausedBy};
 ghost use Rattle.http_wire.specs.Behind.{AskedBehind};
 ghost use Rattle.http_wire.specs.Requests.{Requested};
 
-use crate::link::Link;
 use crate::parts::{PartFault, read_body, read_head};
 use crate::routes::Routes;
 use crate::verdict::{Verdict, judge};
 use base_types::{Octets, Utf8};
+use http_link::Link;
 use std::alloc::Global;
 use thiserror::Error;
 

@@ -11,10 +11,10 @@ use crate::announced::Announced;
 use crate::fields::{
     BodyLength, FIELDS_LIMIT, Values, content_length, values_of, without_parameters,
 };
-use crate::link::Link;
 use crate::parts::{PartFault, read_body, read_head};
 use crate::verdict::is_transfer_coded;
 use base_types::{Octets, OrMemory, Utf8};
+use http_link::Link;
 use httparse::{EMPTY_HEADER, Header, Response, Status};
 use std::alloc::Global;
 use std::str;

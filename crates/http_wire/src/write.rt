@@ -6,10 +6,10 @@ ghost use Rattle.outside_core.specs.Stream.{Sends};
 ghost use Rattle.http.specs.StatusCode.{IsStatusCode};
 ghost use Rattle.http_wire.specs.Writing.{line_bytes, field_line, media_lines, length_line, length_lines, phrase_of, status_line, request_lines, response_lines, closed, request_bytes, response_bytes, Wrote};
 
-use crate::link::Link;
 use crate::method::Method;
 use base_types::{Failed, Octets, OrMemory};
 use http::StatusCode;
+use http_link::Link;
 use std::alloc::Global;
 use thiserror::Error;
 

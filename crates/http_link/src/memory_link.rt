@@ -35,7 +35,7 @@ fn hand_out(rest: &[u8], piece: usize, buf: &mut [u8]) -> usize
 
 impl MemoryLink {
     ghost use Rattle.std.specs.Option.{option_copied};
-    ghost use Rattle.http_wire.specs.Links.{IsNew, stream_of, written_at};
+    ghost use Rattle.http_link.specs.Links.{IsNew, stream_of, written_at};
 
     /// A connection with this input, of which no call was made.
     ///
@@ -74,8 +74,8 @@ impl MemoryLink {
 }
 
 impl Source for MemoryLink {
-    ghost use Rattle.http_wire.specs.Links.{stream_of, faults_of, piece_of, KeepsSetting, TakesNumber};
-    ghost use Rattle.http_wire.specs.LinkLaws.{keeps_same, keeps_both};
+    ghost use Rattle.http_link.specs.Links.{stream_of, faults_of, piece_of, KeepsSetting, TakesNumber};
+    ghost use Rattle.http_link.specs.LinkLaws.{keeps_same, keeps_both};
     ghost use Rattle.base_types.specs.Causes.{HasCause};
     ghost use Rattle.outside_core.specs.Stream.{Reads};
 
@@ -114,8 +114,8 @@ impl Source for MemoryLink {
 
 impl Link for MemoryLink {
     ghost use Rattle.std.specs.Prelude.{refl};
-    ghost use Rattle.http_wire.specs.Links.{stream_of, faults_of, KeepsSetting, TakesWrite};
-    ghost use Rattle.http_wire.specs.LinkLaws.{keeps_same, keeps_both};
+    ghost use Rattle.http_link.specs.Links.{stream_of, faults_of, KeepsSetting, TakesWrite};
+    ghost use Rattle.http_link.specs.LinkLaws.{keeps_same, keeps_both};
     ghost use Rattle.base_types.specs.Causes.{HasCause};
     ghost use Rattle.outside_core.specs.Stream.{Sends};
 

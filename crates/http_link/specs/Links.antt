@@ -2,7 +2,7 @@
 use Rattle.std.specs.Prelude.{◌≡◌, ◌⊎◌, ◌/◌, ◌==◌, ℕ, List, [], length, take, drop, Option, Some, None, Result, is_ok, IsTrue, OnErr, if◌then◌else◌}
 use Rattle.outside_core.specs.Numbers.{works_at, numbered}
 use Rattle.outside_core.specs.Stream.{Stream, sends_on}
-use Rattle.http_wire.specs.declared.memory_link.MemoryLink.{MemoryLink}
+use Rattle.http_link.specs.declared.memory_link.MemoryLink.{MemoryLink}
 
 -- what was taken, what is left and what was written
 abbrev pub stream_of : MemoryLink → Stream

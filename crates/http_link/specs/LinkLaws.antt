@@ -1,7 +1,7 @@
 -- Calls of a connection in memory, one behind the other, leave its setting.
 use Rattle.std.proofs.Common.{refl, ◌∙◌}
-use Rattle.http_wire.specs.Links.{KeepsSetting}
-use Rattle.http_wire.specs.declared.memory_link.MemoryLink.{MemoryLink}
+use Rattle.http_link.specs.Links.{KeepsSetting}
+use Rattle.http_link.specs.declared.memory_link.MemoryLink.{MemoryLink}
 
 -- no call
 pub keeps_same : (l : MemoryLink) → KeepsSetting l l

@@ -1,7 +1,7 @@
 use Rattle.std.proofs.Common.{◌≡◌, ◌/◌, ◌++◌, ℕ, List, length, take, drop, sym, ap, arith, take-append-drop}
 use Rattle.std.proofs.lemmas.Grind.{common_steps}
 use Rattle.outside_core.specs.Stream.{Stream}
-use Rattle.http_wire.proofs.memory_link.MemoryLinkLink.write.Goals as goal
+use Rattle.http_link.proofs.memory_link.MemoryLinkLink.write.Goals as goal
 
 pub returns-in-Ok-extend-clause-contents : goal.returns-in-Ok-extend-clause-contents
 returns-in-Ok-extend-clause-contents c =
