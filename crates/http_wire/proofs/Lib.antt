@@ -1,4 +1,7 @@
 pub mod Heads
+pub mod Fronts
+pub mod Firsts
+pub mod Decided
 pub mod Values
 pub mod Digits
 pub mod Judging
@@ -6,3 +9,10 @@ pub mod Joining
 pub mod Media
 pub mod Written
 pub mod Alone
+pub mod AloneBack
+pub mod Lines
+pub mod Seen
+pub mod Numbers
+pub mod Asking
+pub mod Answering
+pub mod Public

@@ -6,5 +6,6 @@ pub mod Verdicts
 pub mod Requests
 pub mod Responses
 pub mod Writing
+pub mod Sending
 pub mod Behind
 pub mod Laws

@@ -6,6 +6,9 @@
 #![tactic(auto)]
 
 mod announced;
+mod authority;
+#[cfg(test)]
+mod exchanges;
 mod fields;
 mod laws;
 mod method;
@@ -19,13 +22,14 @@ mod verdict;
 mod write;
 
 pub use announced::Announced;
+pub use authority::authority_of;
 pub use fetch_uri::{HOST_LIMIT, URI_LIMIT, Uri, is_uri, read_uri};
 pub use fields::FIELDS_LIMIT;
 pub use http_link::{Link, MemoryLink};
-pub use laws::one_request;
+pub use laws::{one_request, one_response, written_requests_are_read, written_responses_are_read};
 pub use method::Method;
 pub use parts::HEAD_LIMIT;
 pub use request::{Asked, WireFault, read_request};
 pub use response::{Answered, ResponseFault, read_response};
 pub use routes::Routes;
-pub use write::{SendWire, write_request, write_response};
+pub use write::{MEDIA_LIMIT, SendWire, write_request, write_response};

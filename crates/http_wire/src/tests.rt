@@ -1,15 +1,12 @@
 ghost use Rattle.std.specs.Prelude.{◌<◌};
 
-use crate::{
-    Asked, MemoryLink, Method, ResponseFault, Routes, SendWire, WireFault, read_request,
-    read_response, write_request, write_response,
-};
-use base_types::{List, NoMemory, Octets, OrMemory, Utf8};
+use crate::{Asked, MemoryLink, ResponseFault, Routes, WireFault, read_request, read_response};
+use base_types::{List, Octets, OrMemory, Utf8};
 use std::alloc::Global;
 use std::test::Fail;
 
 // A connection with this input, no call of which is to fail.
-fn link_of(alloc: Global, input: &[u8], piece: usize) -> OrMemory<MemoryLink>
+pub(crate) fn link_of(alloc: Global, input: &[u8], piece: usize) -> OrMemory<MemoryLink>
     requires { 0 < piece }
 {
     MemoryLink::new(
@@ -21,7 +18,7 @@ fn link_of(alloc: Global, input: &[u8], piece: usize) -> OrMemory<MemoryLink>
 }
 
 // A connection whose first call is to fail.
-fn broken_link(alloc: Global) -> OrMemory<MemoryLink> {
+pub(crate) fn broken_link(alloc: Global) -> OrMemory<MemoryLink> {
     let mut failing = List::new(alloc);
     failing.push(0)?;
     MemoryLink::new(alloc, Octets::new(alloc), 1, failing)
@@ -189,7 +186,13 @@ fn a_request_is_cut_at_each_byte(rt: HostRuntime) -> Result<(), Fail> {
 }
 
 // The status of a response, 1 to 5 by its fault, and 600 where the body or the media is another.
-fn answer(alloc: Global, input: &[u8], limit: u64, media: &str, body: &[u8]) -> OrMemory<u16> {
+pub(crate) fn answer(
+    alloc: Global,
+    input: &[u8],
+    limit: u64,
+    media: &str,
+    body: &[u8],
+) -> OrMemory<u16> {
     let mut link = link_of(alloc, input, 5)?;
     Ok(match read_response(alloc, &mut link, limit) {
         Ok(it) if it.body.as_slice() == body && it.media.as_str() == media => it.status,
@@ -253,62 +256,8 @@ fn responses_are_read(rt: HostRuntime) -> Result<(), Fail> {
 }
 
 // Whether this was written.
-fn is_written(link: &MemoryLink, want: &str) -> bool {
+pub(crate) fn is_written(link: &MemoryLink, want: &str) -> bool {
     link.written(1).is_none() && link.written(0) == Some(want.as_bytes())
-}
-
-#[test]
-fn requests_are_written(rt: HostRuntime) -> Result<(), Fail> {
-    let alloc = rt.alloc();
-    let mut link = link_of(alloc, b"", 1)?;
-    write_request(alloc, &mut link, Method::Get, "h:80", "/a", b"").map_err(|_| NoMemory)?;
-    assert!(rt;
-        is_written(
-            &link,
-            "GET /a HTTP/1.1\r\nHost: h:80\r\nConnection: close\r\n\r\n"
-        )
-    );
-    let mut link = link_of(alloc, b"", 1)?;
-    write_request(alloc, &mut link, Method::Post, "h:80", "/teep", b"hi").map_err(|_| NoMemory)?;
-    let text =
-        "POST /teep HTTP/1.1\r\nHost: h:80\r\nAccept: application/teep+cbor\r\nContent-Type: application/teep+cbor\r\nContent-Length: 2\r\nConnection: close\r\n\r\nhi";
-    assert!(rt; is_written(&link, text));
-    assert_eq!(rt; outcome(alloc, text.as_bytes(), 1)?, 200);
-    let mut link = broken_link(alloc)?;
-    let failed = write_request(alloc, &mut link, Method::Post, "h:80", "/teep", b"");
-    assert_eq!(rt; failed, Err(SendWire::LinkFault));
-    Ok(())
-}
-
-#[test]
-fn responses_are_written(rt: HostRuntime) -> Result<(), Fail> {
-    let alloc = rt.alloc();
-    let mut link = link_of(alloc, b"", 1)?;
-    write_response(alloc, &mut link, 200, "application/octet-stream", b"hi").map_err(|_| NoMemory)?;
-    let text =
-        "HTTP/1.1 200 OK\r\nContent-Type: application/octet-stream\r\nContent-Length: 2\r\nConnection: close\r\n\r\nhi";
-    assert!(rt; is_written(&link, text));
-    assert_eq!(rt;
-        answer(alloc, text.as_bytes(), 2, "application/octet-stream", b"hi")?,
-        200
-    );
-    let mut link = link_of(alloc, b"", 1)?;
-    write_response(alloc, &mut link, 204, "", b"").map_err(|_| NoMemory)?;
-    assert!(rt;
-        is_written(
-            &link,
-            "HTTP/1.1 204 No Content\r\nConnection: close\r\n\r\n"
-        )
-    );
-    let mut link = link_of(alloc, b"", 1)?;
-    write_response(alloc, &mut link, 413, "", b"").map_err(|_| NoMemory)?;
-    assert!(rt;
-        is_written(
-            &link,
-            "HTTP/1.1 413 Payload Too Large\r\nContent-Length: 0\r\nConnection: close\r\n\r\n"
-        )
-    );
-    Ok(())
 }
 
 #[test]

@@ -1,9 +1,10 @@
 // Requests and responses, onto a connection.
-ghost use Rattle.std.specs.Prelude.{◌≡◌, ◌++◌, [], codes, OnOk};
+ghost use Rattle.std.specs.Prelude.{◌≡◌, ◌++◌, [], codes, OnOk, IsTrue};
 ghost use Rattle.std.specs.List.{flat_map};
 ghost use Rattle.base_types.specs.Causes.{HasCause, CausedBy};
 ghost use Rattle.outside_core.specs.Stream.{Sends};
 ghost use Rattle.http.specs.StatusCode.{IsStatusCode};
+ghost use Rattle.http_wire.specs.Sending.{HasBodyOf, IsAuthority, IsTarget, is_media_type};
 ghost use Rattle.http_wire.specs.Writing.{line_bytes, field_line, media_lines, length_line, length_lines, phrase_of, status_line, request_lines, response_lines, closed, request_bytes, response_bytes, Wrote};
 
 use crate::method::Method;
@@ -12,6 +13,9 @@ use http::StatusCode;
 use http_link::Link;
 use std::alloc::Global;
 use thiserror::Error;
+
+/// The longest media type, in bytes (RFC 6838, section 4.2).
+pub const MEDIA_LIMIT: usize = 255;
 
 /// Why a message was not written whole.
 #[derive(Clone, Copy, Debug, Eq, Error, PartialEq)]
@@ -186,8 +190,8 @@ fn write_closed<L: Link>(link: &mut L, head: &[u8], body: &[u8]) -> Result<(), S
     }
 }
 
-/// Writes a request to a host, which is given with its port (RFC 9112, section 3.2.1), for a path, which
-/// is the target. A GET has no body.
+/// Writes a request to a host, which is given with its port (RFC 9112, section 3.2), for a path, which is
+/// the target. A GET has no body. Host and path are those of an address, so that none of them ends a line.
 ///
 /// A POST accepts `application/teep+cbor`, which its body is too. `LinkFault` exactly where the count of
 /// failed calls rose; a front of the request is written then. `NoMemory` where no room is found for its
@@ -200,7 +204,9 @@ pub fn write_request<L: Link>(
     path: &str,
     body: &[u8],
 ) -> Result<(), SendWire>
-    requires { method ≡ Method.Get → body.now ≡ [] }
+    requires host { IsAuthority host.now }
+    requires path { IsTarget path.now }
+    requires body { HasBodyOf method body.now }
     ensures written { L.told → Wrote (request_bytes method host.now path.now body.now) (L.stream link.old) (L.stream link.new) result }
     ensures cause { CausedBy (result ≡ Err SendWire.LinkFault) (L.faults link.old) (L.faults link.new) }
     ensures keeps { L.keeps_written link.old link.new }
@@ -213,7 +219,8 @@ pub fn write_request<L: Link>(
 }
 
 /// Writes a response of a status from 100 to 999, with its phrase, and a body of this media type. A 204
-/// has no body (RFC 9110, section 15.3.5).
+/// has no body (RFC 9110, section 15.3.5). The media type has visible bytes in lower case and no
+/// parameters, and is not written where there is no body.
 ///
 /// `LinkFault` exactly where the count of failed calls rose; a front of the response is written then.
 /// `NoMemory` where no room is found for its head; nothing is written then.
@@ -225,6 +232,7 @@ pub fn write_response<L: Link>(
     body: &[u8],
 ) -> Result<(), SendWire>
     requires code { IsStatusCode status }
+    requires media { IsTrue (is_media_type media.now) }
     requires empty { status ≡ 204 → body.now ≡ [] }
     ensures written { L.told → Wrote (response_bytes status media.now body.now) (L.stream link.old) (L.stream link.new) result }
     ensures cause { CausedBy (result ≡ Err SendWire.LinkFault) (L.faults link.old) (L.faults link.new) }

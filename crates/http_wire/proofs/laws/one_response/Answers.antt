@@ -1,0 +1,5 @@
+use Rattle.http_wire.proofs.AloneBack.{one_response}
+use Rattle.http_wire.proofs.laws.one_response.Goals as goal
+
+pub returns : goal.returns
+returns c = one_response
