@@ -1,5 +1,6 @@
 -- An input of a request has exactly one answer that follows from it.
-use Rattle.std.proofs.Common.{◌≡◌, ◌<◌, ◌≤◌, ℕ, Bool, true, false, cond, List, [], ◌∷◌, ◌++◌, length, take, drop, map, refl, sym, ap, ◌∙◌, subst, inl, inr, arith, append_assoc, append-nil, length-append, length-take-le, take-append-drop, Result, Ok, Err}
+use Rattle.std.proofs.Common.{◌≡◌, ◌<◌, ◌≤◌, ℕ, Bool, true, false, cond, List, [], ◌++◌, length, take, drop, map, refl, sym, ap, ◌∙◌, subst, inl, inr, arith}
+use Rattle.std.proofs.Common.{append_assoc, append-nil, length-append, length-take-le, take-append-drop, Result, Ok, Err}
 use Rattle.std.specs.Prelude.{nat_le}
 use Rattle.std.proofs.lemmas.Bool.{cases_lt}
 use Rattle.std.proofs.lemmas.List.{take_at, drop_at}
@@ -10,8 +11,8 @@ use Rattle.httparse.specs.Grammar.{RequestHead}
 use Rattle.httparse.specs.Spans.{name_and_value}
 use Rattle.http_wire.specs.Parts.{IsPartHead}
 use Rattle.http_wire.specs.Requests.{Requested}
-use Rattle.http_wire.specs.Verdicts.{IsRequest, IsJudged, verdict}
-use Rattle.http_wire.specs.Laws.{IsFromInput, HasOneAnswer, OneRequest}
+use Rattle.http_wire.specs.Verdicts.{IsJudged, verdict}
+use Rattle.http_wire.specs.Laws.{IsFromInput, OneRequest}
 use Rattle.http_wire.specs.declared.routes.Routes.{Routes}
 use Rattle.http_wire.specs.declared.verdict.Verdict.{Verdict}
 use Rattle.http_wire.specs.declared.verdict.Verdict.TheVariants.{Takes, Gets, Refused}
@@ -179,5 +180,6 @@ one_request routes old =
       follows = it.follows;
       there = it.there;
       alone = λ other new from q.
-          one_answer (IsJudged routes) act (Err (w.Refuse 400)) (Err w.Cut) (one_verdict routes) (came routes old new other from q) (came routes old it.left it.answer it.follows it.there);
+          one_answer (IsJudged routes) act (Err (w.Refuse 400)) (Err w.Cut) (one_verdict routes)
+          (came routes old new other from q) (came routes old it.left it.answer it.follows it.there);
     }

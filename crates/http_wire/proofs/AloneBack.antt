@@ -1,5 +1,6 @@
 -- An input of a response has exactly one answer that follows from it.
-use Rattle.std.proofs.Common.{◌≡◌, ◌<◌, ◌≤◌, ℕ, Bool, true, false, cond, List, [], ◌∷◌, ◌++◌, length, take, drop, map, refl, sym, ap, ◌∙◌, subst, inl, inr, arith, append_assoc, append-nil, length-append, length-take-le, take-append-drop, Option, Some, None, Result, Ok, Err}
+use Rattle.std.proofs.Common.{◌≡◌, ◌<◌, ◌≤◌, ℕ, Bool, true, false, cond, List, [], ◌++◌, length, take, drop, map, refl, sym, ap, ◌∙◌, subst, inl, inr, arith}
+use Rattle.std.proofs.Common.{append_assoc, append-nil, length-append, length-take-le, take-append-drop, Option, Some, None, Result, Ok, Err}
 use Rattle.std.specs.Prelude.{nat_le, nat_lt}
 use Rattle.std.proofs.lemmas.Bool.{cases_lt}
 use Rattle.std.proofs.lemmas.List.{take_at, drop_at}
@@ -10,8 +11,8 @@ use Rattle.httparse.specs.Grammar.{ResponseHead, status_code}
 use Rattle.httparse.specs.Spans.{name_and_value}
 use Rattle.http_wire.specs.Parts.{IsHead, IsPartHead}
 use Rattle.http_wire.specs.Responses.{Responded}
-use Rattle.http_wire.specs.Verdicts.{IsResponse, Announces, announcement}
-use Rattle.http_wire.specs.Laws.{IsFromResponse, HasOneAnswer, OneResponse}
+use Rattle.http_wire.specs.Verdicts.{Announces, announcement}
+use Rattle.http_wire.specs.Laws.{IsFromResponse, OneResponse}
 use Rattle.http_wire.specs.declared.announced.Announced.{Announced}
 use Rattle.http_wire.specs.declared.response.Answered.{Answered}
 use Rattle.http_wire.specs.declared.response.ResponseFault.{ResponseFault}
@@ -71,7 +72,8 @@ within limit a rest h = ap (λ (b : Bool). cond b (Err r.TooLong, rest) (fulfill
 
 fulfilled_all : (a : Announced) (body rest : List ℕ) → a.size ≡ length body → fulfilled a (body ++ rest) ≡ (Ok (made a body), rest)
 fulfilled_all a body rest is =
-    ap (λ (b : Bool). cond b (Ok (made a (take a.size (body ++ rest))), drop a.size (body ++ rest)) (Err r.Cut, [])) (fits a.size (body ++ rest) (omega (arith, is, length-append body rest)))
+    ap (λ (b : Bool). cond b (Ok (made a (take a.size (body ++ rest))), drop a.size (body ++ rest)) (Err r.Cut, []))
+    (fits a.size (body ++ rest) (omega (arith, is, length-append body rest)))
     ∙ (λ i. (Ok (made a (take_at body rest a.size (sym is) i)), drop_at body rest a.size (sym is) i))
   where
     fits : (n : ℕ) (l : List ℕ) → n ≤ length l → nat_le n (length l) ≡ true
@@ -167,7 +169,8 @@ body_there limit old a head rest is j e fits = elim (cases_lt (length rest) a.si
           took = record {
             head = head;
             head_is = record { is_head = is; announces = subst (λ (k : ℕ). let it : Announced = record a { size = k } in Announces head (Some it)) (sym size) j };
-            took = takes (head ++ take a.size rest) (drop a.size rest) old (append_assoc head (take a.size rest) (drop a.size rest) ∙ ap (λ (l : List ℕ). head ++ l) (take-append-drop a.size rest) ∙ e);
+            took = takes (head ++ take a.size rest) (drop a.size rest) old
+                (append_assoc head (take a.size rest) (drop a.size rest) ∙ ap (λ (l : List ℕ). head ++ l) (take-append-drop a.size rest) ∙ e);
           };
         };
       }

@@ -1,10 +1,9 @@
 -- A response that was written is read as it was written.
-use Rattle.std.proofs.Common.{All, ◌≡◌, ◌≢◌, ◌+◌, ◌<◌, ◌≤◌, ◌^◌, ℕ, zero, suc, Bool, true, false, cond, List, [], ◌∷◌, ◌++◌, length, map, take, get_or, refl, sym, ap, ◌∙◌, subst, inl, inr, arith, append_assoc, append-nil, length-append, codes, decimal, unwrap_or, IsTrue, Option, Some, None, Result, Ok, Err}
-use Rattle.std.specs.Prelude.{nat_lt, nat_le, ◌==◌, ◌&&◌, ◌||◌}
+use Rattle.std.proofs.Common.{All, ◌≡◌, ◌<◌, ◌≤◌, ◌^◌, ℕ, zero, suc, Bool, true, false, cond, List, [], ◌∷◌, ◌++◌, length, map, take, get_or, refl, sym, ap, ◌∙◌, subst}
+use Rattle.std.proofs.Common.{inl, inr, arith, append_assoc, append-nil, length-append, codes, decimal, unwrap_or, Option, Some, None, Ok}
+use Rattle.std.specs.Prelude.{nat_le, ◌==◌, ◌&&◌}
 use Rattle.std.specs.Char.{is_ascii_graphic, to_ascii_lowercase}
-use Rattle.std.specs.List.{flat_map, list_all, position_or_len}
-use Rattle.std.specs.Str.{is_utf8}
-use Rattle.std.specs.Str.Parse.{digits_value}
+use Rattle.std.specs.List.{flat_map, list_all}
 use Rattle.std.proofs.lemmas.Bool.{cases_lt, and_parts, leb-true}
 use Rattle.std.proofs.lemmas.Bool.Decides.{nat_tests, Decides-below_and}
 use Rattle.std.proofs.lemmas.Fmt.{decimal_is_IsNumeral, length-decimal-le}
@@ -13,25 +12,23 @@ use Rattle.std.proofs.lemmas.List.Elements.{All-append, All-cons, All-head, All-
 use Rattle.std.proofs.lemmas.List.Sums.{AllPass-from_list_all, position_or_len_is}
 use Rattle.std.proofs.lemmas.Str.{is_utf8-from_IsUtf8}
 use Rattle.std.proofs.lemmas.Str.Parse.{numerals_by_value, tells_digits, digits_value_short}
-use Rattle.outside_core.specs.Stream.{Stream, Took}
 use Rattle.http.specs.StatusCode.{IsStatusCode, reason_phrase}
-use Rattle.httparse.specs.Grammar.{is_token_byte, is_value_byte, AllPass, crlf, print_version, print_field, ResponseHead, print_response, status_code}
-use Rattle.httparse.specs.Spans.{name_and_value}
+use Rattle.httparse.specs.Grammar.{is_token_byte, is_value_byte, AllPass, crlf, print_version, print_field, ResponseHead, print_response}
 use Rattle.httparse.proofs.GrammarLemmas.{cons-append, print_response-append}
-use Rattle.http_wire.specs.Fields.{Part, content_length, without_parameters, values}
+use Rattle.http_wire.specs.Fields.{Part, content_length, without_parameters}
 use Rattle.http_wire.specs.Parts.{IsHead}
 use Rattle.http_wire.specs.Responses.{Responded}
-use Rattle.http_wire.specs.Sending.{is_media_byte, is_media_type, shown_media}
-use Rattle.http_wire.specs.Verdicts.{Announces, announcement, announced_with, body_size, media_of, lower_media}
-use Rattle.http_wire.specs.Writing.{line_bytes, head_bytes, media_lines, length_line, phrase_of, status_line, response_lines, response_bytes}
+use Rattle.http_wire.specs.Sending.{is_media_byte, shown_media}
+use Rattle.http_wire.specs.Verdicts.{Announces, announcement, announced_with, body_size, lower_media}
+use Rattle.http_wire.specs.Writing.{line_bytes, head_bytes, media_lines, length_line, phrase_of, status_line, response_lines}
 use Rattle.http_wire.specs.Laws.{WrittenResponses}
 use Rattle.http_wire.specs.declared.announced.Announced.{Announced}
 use Rattle.http_wire.specs.declared.fields.BodyLength.{BodyLength}
-use Rattle.http_wire.specs.declared.fields.BodyLength.TheVariants.{Unsaid, Said, Bad}
-use Rattle.http_wire.specs.declared.response.Answered.{Answered}
+use Rattle.http_wire.specs.declared.fields.BodyLength.TheVariants.{Unsaid, Said}
 use Rattle.http_wire.proofs.Lines.{IsLine, last_field, head_lines, head_closed}
-use Rattle.http_wire.proofs.Seen.{IsVisible, visible_value, visible_text, IsSeen, seen, AreSeen, no_more_seen, and_seen, line_of, sent, lines_printed, fields_are, read_back, lines_are, weight, lines_weigh}
-use Rattle.http_wire.proofs.Numbers.{digits_pass, digits_visible, length_says, literal}
+use Rattle.http_wire.proofs.Seen.{IsVisible, visible_value, visible_text, IsSeen, seen, no_more_seen, and_seen, line_of, sent, lines_printed, fields_are, read_back}
+use Rattle.http_wire.proofs.Seen.{lines_are, weight, lines_weigh}
+use Rattle.http_wire.proofs.Numbers.{digits_pass, digits_visible, length_says}
 use Rattle.http_wire.proofs.Asking.{close_seen, length_seen}
 
 -- ---- the status and its phrase
@@ -80,7 +77,8 @@ media_visible media all = All-weaker (λ b. is_media_byte b ≡ true) (λ b. is_
 
 no_parameters : (media : List ℕ) → AllPass is_media_byte media → without_parameters media ≡ media
 no_parameters media all =
-    ap (λ (n : ℕ). take n media) (position_or_len_is (λ byte. byte == 59) media (length media) 0 (omega arith) (λ k below. step (get_or media k 0) (all k 0 below)) (λ below. absurd (omega (arith, below))))
+    ap (λ (n : ℕ). take n media) (position_or_len_is (λ byte. byte == 59) media (length media) 0 (omega arith)
+    (λ k below. step (get_or media k 0) (all k 0 below)) (λ below. absurd (omega (arith, below))))
     ∙ take_all (length media) media (omega arith)
   where
     step : (b : ℕ) → is_media_byte b ≡ true → (b == 59) ≡ false
@@ -133,13 +131,19 @@ status_length status code =
       length-append (codes "HTTP/1.1 ") (decimal status),
     )
 
-module _ (status : ℕ) (parts : List Part) (lines : List (List ℕ)) (code : IsStatusCode status) (is : IsAnswering parts) (e : lines ++ last_field ∷ [] ≡ status_line status ∷ map line_of parts) where
+module _ (status : ℕ) (parts : List Part) (lines : List (List ℕ)) (code : IsStatusCode status) (is : IsAnswering parts)
+    (e : lines ++ last_field ∷ [] ≡ status_line status ∷ map line_of parts) where
   all_lines : head_bytes lines ≡ flat_map line_bytes (status_line status ∷ map line_of parts) ++ codes "\r\n"
   all_lines = head_lines lines ∙ ap (λ (l : List (List ℕ)). flat_map line_bytes l ++ codes "\r\n") e
 
   first_is : IsLine (status_line status)
   first_is = (
-    omega (arith, length-append (codes "HTTP/1.1 " ++ decimal status ++ codes " ") (phrase_of status), length-append (codes "HTTP/1.1 " ++ decimal status) (codes " "), length-append (codes "HTTP/1.1 ") (decimal status)),
+    omega (
+      arith,
+      length-append (codes "HTTP/1.1 " ++ decimal status ++ codes " ") (phrase_of status),
+      length-append (codes "HTTP/1.1 " ++ decimal status) (codes " "),
+      length-append (codes "HTTP/1.1 ") (decimal status),
+    ),
     All-append (λ v. is_value_byte v ≡ true) (codes "HTTP/1.1 " ++ decimal status ++ codes " ") (phrase_of status)
         (All-append (λ v. is_value_byte v ≡ true) (codes "HTTP/1.1 " ++ decimal status) (codes " ")
         (All-append (λ v. is_value_byte v ≡ true) (codes "HTTP/1.1 ") (decimal status) (AllPass-from_list_all is_value_byte (codes "HTTP/1.1 ") refl)
@@ -192,7 +196,8 @@ response_parts false media (b ∷ more) = (codes "Content-Type", media) ∷ (cod
 abbrev lines_with : Bool → ℕ → List ℕ → List ℕ → List (List ℕ)
 lines_with none status media body = (status_line status ∷ []) ++ media_lines media body ++ cond none [] (length_line body ∷ [])
 
-lines_are_parts : (none : Bool) (status : ℕ) (media body : List ℕ) → (none ≡ true → body ≡ []) → lines_with none status media body ++ last_field ∷ [] ≡ status_line status ∷ map line_of (response_parts none media body)
+lines_are_parts : (none : Bool) (status : ℕ) (media body : List ℕ) → (none ≡ true → body ≡ [])
+    → lines_with none status media body ++ last_field ∷ [] ≡ status_line status ∷ map line_of (response_parts none media body)
 lines_are_parts true status media body empty = ap (λ (l : List ℕ). lines_with true status media l ++ last_field ∷ []) (empty refl)
 lines_are_parts false status media [] empty = refl
 lines_are_parts false status media (b ∷ more) empty = refl
@@ -219,7 +224,8 @@ answering false media (b ∷ more) visible short small = record {
 abbrev told : ℕ → List ℕ → List ℕ → Announced
 told status media body = record { status = status; media = shown_media media body; size = length body }
 
-sized : (status : ℕ) (parts : List Part) (said : BodyLength) (size : ℕ) → content_length parts ≡ said → body_size status said ≡ Some size → announced_with status parts (body_size status (content_length parts)) ≡ announced_with status parts (Some size)
+sized : (status : ℕ) (parts : List Part) (said : BodyLength) (size : ℕ) → content_length parts ≡ said → body_size status said ≡ Some size
+    → announced_with status parts (body_size status (content_length parts)) ≡ announced_with status parts (Some size)
 sized status parts said size e f = ap (λ (l : BodyLength). announced_with status parts (body_size status l)) e ∙ ap (announced_with status parts) f
 
 told_is : (none : Bool) (status : ℕ) (media body : List ℕ) → (status == 204) ≡ none → (none ≡ true → body ≡ []) → AllPass is_media_byte media → length body < 10 ^ 18

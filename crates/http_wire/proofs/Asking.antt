@@ -1,34 +1,28 @@
 -- A request that was written is read as it was written.
-use Rattle.std.proofs.Common.{All, ◌≡◌, ◌≢◌, ◌+◌, ◌<◌, ◌≤◌, ◌^◌, ℕ, Bool, true, false, cond, List, [], ◌∷◌, ◌++◌, length, map, refl, sym, ap, ◌∙◌, subst, inl, arith, append_assoc, append-nil, length-append, codes, decimal, get_or, IsTrue, Result, Ok, Err}
+use Rattle.std.proofs.Common.{All, ◌≡◌, ◌≢◌, ◌+◌, ◌<◌, ◌≤◌, ◌^◌, ℕ, Bool, true, false, cond, List, [], ◌∷◌, ◌++◌, length, map, refl, sym, ap, ◌∙◌, subst, inl, arith}
+use Rattle.std.proofs.Common.{append_assoc, append-nil, length-append, codes, decimal, IsTrue}
 use Rattle.std.specs.Prelude.{nat_lt, ◌&&◌}
-use Rattle.std.specs.Char.{is_ascii_graphic, is_ascii_digit}
-use Rattle.std.specs.List.{flat_map, list_all}
+use Rattle.std.specs.Char.{is_ascii_graphic}
+use Rattle.std.specs.List.{flat_map}
 use Rattle.std.specs.Str.{bytes_eq}
-use Rattle.std.specs.Str.Parse.{digits_value}
-use Rattle.std.proofs.lemmas.Bool.{false≢true, and_from, le-leb}
 use Rattle.std.proofs.lemmas.Bool.Decides.{nat_tests}
-use Rattle.std.proofs.lemmas.Fmt.{decimal_is_IsNumeral, length-decimal-le, decimal_nonempty}
-use Rattle.std.proofs.lemmas.Grind.{get_or_default_zero}
+use Rattle.std.proofs.lemmas.Fmt.{length-decimal-le}
 use Rattle.std.proofs.lemmas.List.{length-map}
-use Rattle.std.proofs.lemmas.List.Elements.{All-append, All-cons, All-nil, All-weaker}
-use Rattle.std.proofs.lemmas.List.Sums.{AllPass-from_list_all, list_all-from_AllPass}
+use Rattle.std.proofs.lemmas.List.Elements.{All-append, All-cons, All-weaker}
+use Rattle.std.proofs.lemmas.List.Sums.{AllPass-from_list_all}
 use Rattle.std.proofs.lemmas.Slice.Eq.{bytes_eq-Decides}
-use Rattle.std.proofs.lemmas.Str.Parse.{digit_at}
 use Rattle.fetch_uri.specs.Address.{is_host_byte, IsPath}
-use Rattle.outside_core.specs.Stream.{Stream, Took}
+use Rattle.outside_core.specs.Stream.{Took}
 use Rattle.httparse.specs.Grammar.{is_token_byte, is_value_byte, AllPass, IsToken, crlf, print_version, print_field, RequestHead, print_request}
 use Rattle.httparse.proofs.GrammarLemmas.{cons-append, print_request-append}
-use Rattle.http_wire.specs.Ends.{EndsHead}
-use Rattle.http_wire.specs.Fields.{Part, content_length, length_in, is_length}
+use Rattle.http_wire.specs.Fields.{Part, content_length}
 use Rattle.http_wire.specs.Parts.{IsHead}
-use Rattle.http_wire.specs.Requests.{Requested}
-use Rattle.http_wire.specs.Sending.{IsAuthority, IsTarget, HasBodyOf, IsServed, asked_by}
-use Rattle.http_wire.specs.Verdicts.{IsJudged, verdict, verdict_by, post_verdict, route_of, is_bad, is_listed, is_teep, is_transfer_coded}
-use Rattle.http_wire.specs.Writing.{line_bytes, head_bytes, request_lines, request_bytes}
+use Rattle.http_wire.specs.Sending.{IsAuthority, IsTarget}
+use Rattle.http_wire.specs.Verdicts.{IsJudged, verdict, verdict_by, post_verdict, route_of, is_bad, is_listed}
+use Rattle.http_wire.specs.Writing.{line_bytes, head_bytes, request_lines}
 use Rattle.http_wire.specs.Laws.{WrittenRequests}
 use Rattle.http_wire.specs.declared.fields.BodyLength.{BodyLength}
-use Rattle.http_wire.specs.declared.fields.BodyLength.TheVariants.{Unsaid, Said, Bad}
-use Rattle.http_wire.specs.declared.method.Method.{Method}
+use Rattle.http_wire.specs.declared.fields.BodyLength.TheVariants.{Unsaid, Said}
 use Rattle.http_wire.specs.declared.method.Method.TheVariants.{Get, Post}
 use Rattle.http_wire.specs.declared.routes.Routes.{Routes}
 use Rattle.http_wire.specs.declared.routes.Route.{Route}
@@ -36,7 +30,8 @@ use Rattle.http_wire.specs.declared.routes.Route.TheVariants as route
 use Rattle.http_wire.specs.declared.verdict.Verdict.{Verdict}
 use Rattle.http_wire.specs.declared.verdict.Verdict.TheVariants.{Takes, Gets, Refused}
 use Rattle.http_wire.proofs.Lines.{IsLine, last_field, head_lines, head_closed}
-use Rattle.http_wire.proofs.Seen.{IsVisible, visible_value, visible_target, visible_text, IsSeen, seen, AreSeen, no_more_seen, and_seen, line_of, sent, lines_printed, fields_are, read_back, lines_are, weight, lines_weigh}
+use Rattle.http_wire.proofs.Seen.{IsVisible, visible_value, visible_target, visible_text, IsSeen, seen, AreSeen, no_more_seen, and_seen, line_of, sent, lines_printed}
+use Rattle.http_wire.proofs.Seen.{fields_are, read_back, lines_are, weight, lines_weigh}
 use Rattle.http_wire.proofs.Numbers.{digits_visible, length_says, literal}
 
 -- ---- any request
@@ -68,7 +63,8 @@ record IsAsked (method target : List ℕ) (parts : List Part) : Type 0 where
   few : length parts ≤ 32
   light : length method + length target + weight parts ≤ 8000
 
-module _ (method target : List ℕ) (parts : List Part) (lines : List (List ℕ)) (is : IsAsked method target parts) (e : lines ++ last_field ∷ [] ≡ first_line method target ∷ map line_of parts) where
+module _ (method target : List ℕ) (parts : List Part) (lines : List (List ℕ)) (is : IsAsked method target parts)
+    (e : lines ++ last_field ∷ [] ≡ first_line method target ∷ map line_of parts) where
   all_lines : head_bytes lines ≡ flat_map line_bytes (first_line method target ∷ map line_of parts) ++ codes "\r\n"
   all_lines = head_lines lines ∙ ap (λ (l : List (List ℕ)). flat_map line_bytes l ++ codes "\r\n") e
 
@@ -126,7 +122,8 @@ host_byte_visible b h = grind (arith, nat_tests)
 host_visible : (host : List ℕ) → IsAuthority host → IsVisible host
 host_visible host is = subst IsVisible (sym is.spelled)
     (All-append (λ b. is_ascii_graphic b ≡ true) (is.host ++ codes ":") (decimal is.port)
-    (All-append (λ b. is_ascii_graphic b ≡ true) is.host (codes ":") (All-weaker (λ b. is_host_byte b ≡ true) (λ b. is_ascii_graphic b ≡ true) host_byte_visible is.host is.host_is.bytes)
+    (All-append (λ b. is_ascii_graphic b ≡ true) is.host (codes ":")
+    (All-weaker (λ b. is_host_byte b ≡ true) (λ b. is_ascii_graphic b ≡ true) host_byte_visible is.host is.host_is.bytes)
     (AllPass-from_list_all is_ascii_graphic (codes ":") refl))
     (digits_visible is.port (omega (arith, is.port_most))))
 
@@ -179,8 +176,8 @@ not_same a b other = by (bytes_eq a b) refl
 
 get_route : (routes : Routes) (path : List ℕ) → path ≢ routes.post → IsTrue (is_listed path routes.gets) → route_of routes (codes "GET") path ≡ route.Get
 get_route routes path other listed =
-    ap (λ (b : Bool). cond b (cond (bytes_eq (codes "GET") (codes "POST")) route.Post route.OtherMethod) (cond (is_listed path routes.gets) (cond (bytes_eq (codes "GET") (codes "GET")) route.Get route.OtherMethod) route.Unknown)) (not_same path routes.post other)
-    ∙ ap (λ (b : Bool). cond b (cond (bytes_eq (codes "GET") (codes "GET")) route.Get route.OtherMethod) route.Unknown) listed
+    ap (λ (b : Bool). cond b route.OtherMethod (cond (is_listed path routes.gets) route.Get route.Unknown)) (not_same path routes.post other)
+    ∙ ap (λ (b : Bool). cond b route.Get route.Unknown) listed
 
 get_verdict : (routes : Routes) (host path : List ℕ) → path ≢ routes.post → IsTrue (is_listed path routes.gets) → Gets path ≡ verdict routes (codes "GET") path (get_parts host)
 get_verdict routes host path other listed = sym (ap (λ (r : Route). verdict_by r path Unsaid (get_parts host)) (get_route routes path other listed))
@@ -237,7 +234,7 @@ post_lines host path (b ∷ more) = refl
 
 post_route : (routes : Routes) (path : List ℕ) → path ≡ routes.post → route_of routes (codes "POST") path ≡ route.Post
 post_route routes path is =
-    ap (λ (b : Bool). cond b (cond (bytes_eq (codes "POST") (codes "POST")) route.Post route.OtherMethod) (cond (is_listed path routes.gets) (cond (bytes_eq (codes "POST") (codes "GET")) route.Get route.OtherMethod) route.Unknown))
+    ap (λ (b : Bool). cond b route.Post (cond (is_listed path routes.gets) route.OtherMethod route.Unknown))
     ((bytes_eq-Decides path routes.post).1 is)
 
 said : (host body : List ℕ) → length body ≤ 16777216 → content_length (post_parts host body) ≡ Said (length body)
@@ -258,7 +255,8 @@ post_takes host (b ∷ more) small =
     fits : (n : ℕ) → n ≤ 16777216 → nat_lt 16777216 n ≡ false
     fits n h = grind (arith, nat_tests)
 
-post_is : (routes : Routes) (host path body : List ℕ) → path ≡ routes.post → length body ≤ 16777216 → Takes (length body) ≡ verdict routes (codes "POST") path (post_parts host body)
+post_is : (routes : Routes) (host path body : List ℕ) → path ≡ routes.post → length body ≤ 16777216
+    → Takes (length body) ≡ verdict routes (codes "POST") path (post_parts host body)
 post_is routes host path body is small = sym (
     ap (λ (l : BodyLength). cond (is_bad l) (Refused 400) (verdict_by (route_of routes (codes "POST") path) path l (post_parts host body))) (said host body small)
     ∙ ap (λ (r : Route). verdict_by r path (Said (length body)) (post_parts host body)) (post_route routes path is)
@@ -283,7 +281,8 @@ written_requests routes Post host path body old new h t bodiless served small to
       head = head_bytes (request_lines Post host path body);
       head_is = record {
         is_head = is_head (codes "POST") path (post_parts host body) (request_lines Post host path body) is (post_lines host path body);
-        judged = is_judged (codes "POST") path (post_parts host body) (request_lines Post host path body) is (post_lines host path body) routes (Takes (length body)) (post_is routes host path body served small);
+        judged = is_judged (codes "POST") path (post_parts host body) (request_lines Post host path body) is (post_lines host path body) routes (Takes (length body))
+            (post_is routes host path body served small);
       };
       took = took;
     }

@@ -1,17 +1,23 @@
 -- Whether bytes are one whole head: each piece of the grammar is there or is not, and so is a row of pieces.
-use Rattle.std.proofs.Common.{◌≡◌, ◌+◌, ◌<◌, ◌≤◌, ℕ, zero, suc, Bool, true, false, List, [], ◌∷◌, ◌++◌, length, refl, sym, ap, ◌∙◌, subst, inl, inr, ◌⊎◌, arith, append_assoc, append-nil, length-append, Option, Some, None}
-use Rattle.std.specs.Prelude.{⊤}
+use Rattle.std.proofs.Common.{◌≡◌, ◌≤◌, ℕ, zero, suc, Bool, true, false, List, [], ◌∷◌, ◌++◌, length, refl, sym, ap, ◌∙◌, subst, inl, inr, ◌⊎◌, arith, append_assoc}
+use Rattle.std.proofs.Common.{append-nil, length-append, Option, Some, None}
 use Rattle.std.specs.List.{flat_map}
 use Rattle.std.specs.Str.{IsUtf8, is_utf8}
 use Rattle.std.specs.Char.{is_ascii_digit}
 use Rattle.std.proofs.lemmas.Bool.{cases_eq, cases_lt, false≢true}
 use Rattle.std.proofs.lemmas.List.Elements.{All-cons, All-nil}
 use Rattle.std.proofs.lemmas.Str.{is_utf8-from_IsUtf8, IsUtf8-from_is_utf8}
-use Rattle.httparse.specs.Grammar.{is_token_byte, is_uri_byte, is_value_byte, AllPass, LineEnd, crlf, lf, print_end, print_blank, print_version, Field, print_field, IsField, RequestHead, ReadsRequest, ResponseHead, ReadsResponse, print_reason, reason_phrase}
-use Rattle.httparse.specs.Pieces.{Piece, Begins, Then, Stops, is_newline, Bytes, Newline, Blank, Word, Method, Target, Version, Digit, Code, Text, Reason, FieldLine, Section, RequestStart, ResponseStart}
+use Rattle.httparse.specs.Grammar.{is_token_byte, is_uri_byte, is_value_byte, AllPass, LineEnd, crlf, lf, print_end, print_blank, print_version, Field, print_field}
+use Rattle.httparse.specs.Grammar.{IsField, RequestHead, ReadsRequest, ResponseHead, ReadsResponse, print_reason, reason_phrase}
+use Rattle.httparse.specs.Pieces.{Piece, Begins, Then, Stops, is_newline, Bytes, Newline, Blank, Word, Method, Target, Version, Digit, Code, Text, Reason, FieldLine}
+use Rattle.httparse.specs.Pieces.{Section, RequestStart, ResponseStart}
 use Rattle.httparse.proofs.RunLemmas.{run_unique, run_unstopped}
-use Rattle.httparse.proofs.PieceLemmas.{IsDeterministic, Bytes_deterministic, Newline_deterministic, Blank_deterministic, Method_deterministic, Target_deterministic, Version_deterministic, Digit_deterministic, Code_deterministic, Name_deterministic, RequestStart_deterministic, ResponseStart_deterministic, Section_deterministic, Section_skip, Section_line, space_ends_token, colon_ends_token, print_end_unique, newline_not_stopped, Stops_value, print_field-append, FieldLine_parts}
-use Rattle.httparse.proofs.GrammarLemmas.{request_tree, request_head, request_pieces, request_from_pieces, request_unique, response_head, response_pieces, response_from_pieces, response_unique}
+use Rattle.httparse.proofs.PieceLemmas.{IsDeterministic, Bytes_deterministic, Blank_deterministic, Method_deterministic, Target_deterministic, Version_deterministic}
+use Rattle.httparse.proofs.PieceLemmas.{Digit_deterministic, Code_deterministic, Name_deterministic, RequestStart_deterministic, ResponseStart_deterministic}
+use Rattle.httparse.proofs.PieceLemmas.{Section_skip, Section_line, space_ends_token, colon_ends_token, print_end_unique, newline_not_stopped, Stops_value}
+use Rattle.httparse.proofs.PieceLemmas.{print_field-append, FieldLine_parts}
+use Rattle.httparse.proofs.GrammarLemmas.{request_tree, request_head, request_pieces, request_from_pieces, request_unique, response_head, response_pieces}
+use Rattle.httparse.proofs.GrammarLemmas.{response_from_pieces, response_unique}
 use Rattle.http_wire.specs.Verdicts.{IsRequest, IsResponse}
 
 -- it holds, or does not
@@ -248,7 +254,8 @@ reason_tells text = elim (newline_tells text) as (λ _. Decided (Begins Reason t
   ]
 ]
   where
-    neither : (r : Option (List ℕ)) (end : LineEnd) (rest : List ℕ) → ¬ (Begins Newline text) → ¬ (Begins (Bytes (32 ∷ [])) text) → text ≡ print_reason r ++ (print_end end ++ rest) → ⊥
+    neither : (r : Option (List ℕ)) (end : LineEnd) (rest : List ℕ) → ¬ (Begins Newline text) → ¬ (Begins (Bytes (32 ∷ [])) text)
+        → text ≡ print_reason r ++ (print_end end ++ rest) → ⊥
     neither None end rest a b e = a (end, rest, e)
     neither (Some phrase) end rest a b e = b (tt, phrase ++ (print_end end ++ rest), e)
 
@@ -274,7 +281,13 @@ regroup a b c d = simp append_assoc
 -- a field line has a byte
 field_long : (f : Field) (text rest : List ℕ) → FieldLine f text rest → suc (length rest) ≤ length text
 field_long f text rest x =
-    omega (arith, ap length (x.1 ∙ print_field-append f rest), length-append f.name (58 ∷ (f.raw ++ (print_end f.end ++ rest))), length-append f.raw (print_end f.end ++ rest), length-append (print_end f.end) rest)
+    omega (
+      arith,
+      ap length (x.1 ∙ print_field-append f rest),
+      length-append f.name (58 ∷ (f.raw ++ (print_end f.end ++ rest))),
+      length-append f.raw (print_end f.end ++ rest),
+      length-append (print_end f.end) rest,
+    )
 
 section_within : (n : ℕ) (text : List ℕ) → length text ≤ n → Decided (Begins Section text)
 section_within n [] fits = inr (λ z. elim (Section_line z.0 [] z.1 z.2) [
@@ -312,12 +325,14 @@ section_tells text = section_within (length text) text (omega arith)
 
 request_tells : Tells (Then RequestStart Section)
 request_tells = then_tells RequestStart_deterministic
-    (then_tells Blank_deterministic blank_tells (then_tells Method_deterministic method_tells (then_tells Target_deterministic target_tells (then_tells Version_deterministic version_tells newline_tells))))
+    (then_tells Blank_deterministic blank_tells (then_tells Method_deterministic method_tells
+    (then_tells Target_deterministic target_tells (then_tells Version_deterministic version_tells newline_tells))))
     section_tells
 
 response_tells : Tells (Then ResponseStart Section)
 response_tells = then_tells ResponseStart_deterministic
-    (then_tells Blank_deterministic blank_tells (then_tells Version_deterministic version_tells (then_tells (Bytes_deterministic (32 ∷ [])) (byte_tells 32) (then_tells Code_deterministic code_tells reason_tells))))
+    (then_tells Blank_deterministic blank_tells (then_tells Version_deterministic version_tells
+    (then_tells (Bytes_deterministic (32 ∷ [])) (byte_tells 32) (then_tells Code_deterministic code_tells reason_tells))))
     section_tells
 
 -- nothing is left, and there are no more fields than are taken

@@ -1,5 +1,5 @@
 -- Fronts of one list: heads that end, and bytes in which no head does.
-use Rattle.std.proofs.Common.{◌≡◌, ◌+◌, ◌<◌, ◌≤◌, ℕ, List, [], ◌∷◌, ◌++◌, length, refl, sym, ap, ◌∙◌, arith, append-nil, length-append}
+use Rattle.std.proofs.Common.{◌≡◌, ℕ, List, [], ◌∷◌, ◌++◌, length, refl, sym, ap, ◌∙◌, arith, append-nil, length-append}
 use Rattle.outside_core.specs.Stream.{Stream, Took}
 use Rattle.http_wire.specs.Ends.{EndsInEmptyLine, HasNoEnd, EndsHead}
 use Rattle.http_wire.specs.Parts.{IsHead, IsHeadless}

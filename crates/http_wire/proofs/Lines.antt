@@ -1,12 +1,13 @@
 -- Lines that are closed end a head, and no shorter front of them does.
-use Rattle.std.proofs.Common.{All, ◌≡◌, ◌≢◌, ◌<◌, ◌≤◌, ℕ, Bool, true, false, List, [], ◌∷◌, ◌++◌, length, refl, sym, ap, ◌∙◌, subst, inl, inr, arith, append_assoc, append-nil, length-append, codes}
+use Rattle.std.proofs.Common.{All, ◌≡◌, ◌≢◌, ◌<◌, ◌≤◌, ℕ, true, List, [], ◌∷◌, ◌++◌, length, refl, sym, ap, ◌∙◌, subst, inl, inr, arith, append_assoc, append-nil}
+use Rattle.std.proofs.Common.{length-append, codes}
 use Rattle.std.specs.List.{flat_map}
 use Rattle.std.proofs.lemmas.Bool.{false≢true}
-use Rattle.std.proofs.lemmas.List.Elements.{All-head, All-tail, All-append, All-cons, All-nil}
+use Rattle.std.proofs.lemmas.List.Elements.{All-head, All-tail}
 use Rattle.httparse.specs.Grammar.{is_value_byte, AllPass}
 use Rattle.httparse.proofs.GrammarLemmas.{cons-append}
-use Rattle.http_wire.specs.Ends.{Ends, EndsInEmptyLine, EndsHead}
-use Rattle.http_wire.specs.Writing.{line_bytes, field_line, closed, head_bytes}
+use Rattle.http_wire.specs.Ends.{EndsInEmptyLine, EndsHead}
+use Rattle.http_wire.specs.Writing.{line_bytes, field_line, head_bytes}
 
 -- a line has a byte, and none that ends a line
 abbrev pub IsLine : List ℕ → Type 0
@@ -70,7 +71,10 @@ from_line (c ∷ line) rest is last (x ∷ f) more e ends =
 
 last_line : EndsLast (13 ∷ 10 ∷ [])
 last_line [] more e ends = absurd (too_short (10 ∷ []) (omega arith) ends)
-last_line (x ∷ []) more e (inl a) = let first : x ≡ 13 = cc in absurd (too_short [] (omega arith) (ends_behind x [] (λ ten. omega (arith, first, ten)) (inl (second_of x 10 [] a.0 [] (λ ten. omega (arith, first, ten)) a.1))))
+last_line (x ∷ []) more e (inl a) =
+    let first : x ≡ 13 = cc in
+    let not_ten : x ≢ 10 = λ ten. omega (arith, first, ten) in
+    absurd (too_short [] (omega arith) (ends_behind x [] not_ten (inl (second_of x 10 [] a.0 [] not_ten a.1))))
 last_line (x ∷ []) more e (inr a) = absurd (omega (arith, ap length a.1, length-append a.0 (10 ∷ 13 ∷ 10 ∷ [])))
 last_line (x ∷ y ∷ f) [] e ends = refl
 last_line (x ∷ y ∷ f) (z ∷ more) e ends = absurd (omega (arith, ap length e, length-append f (z ∷ more)))

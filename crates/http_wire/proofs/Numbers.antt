@@ -1,5 +1,5 @@
 -- The decimal digits of a length, as a value that is written and as one that is read.
-use Rattle.std.proofs.Common.{◌≡◌, ◌<◌, ◌≤◌, ◌^◌, ℕ, Bool, true, false, cond, List, [], ◌∷◌, length, get_or, ap, ◌∙◌, arith, decimal}
+use Rattle.std.proofs.Common.{◌≡◌, ◌<◌, ◌≤◌, ◌^◌, ℕ, Bool, true, cond, List, [], ◌∷◌, length, get_or, ap, ◌∙◌, arith, decimal}
 use Rattle.std.specs.Prelude.{nat_lt, nat_le, ◌&&◌}
 use Rattle.std.specs.Char.{is_ascii_graphic, is_ascii_digit}
 use Rattle.std.specs.List.{list_all}
@@ -12,8 +12,7 @@ use Rattle.std.proofs.lemmas.List.Elements.{All-weaker}
 use Rattle.std.proofs.lemmas.List.Sums.{AllPass-from_list_all, list_all-from_AllPass}
 use Rattle.std.proofs.lemmas.Str.Parse.{digit_at}
 use Rattle.httparse.specs.Grammar.{AllPass}
-use Rattle.http_wire.specs.Fields.{is_length, length_in}
-use Rattle.http_wire.specs.declared.fields.BodyLength.{BodyLength}
+use Rattle.http_wire.specs.Fields.{length_in}
 use Rattle.http_wire.specs.declared.fields.BodyLength.TheVariants.{Said, Bad}
 use Rattle.http_wire.proofs.Seen.{IsVisible}
 

@@ -4,7 +4,6 @@ use Rattle.std.specs.List.{list_all}
 use Rattle.std.specs.Char.{is_ascii_graphic, is_ascii_uppercase}
 use Rattle.fetch_uri.specs.Address.{IsHost, IsPath}
 use Rattle.fetch_uri.specs.declared.uri.TheConstants.{URI_LIMIT}
-use Rattle.http.specs.StatusCode.{IsStatusCode}
 use Rattle.http_wire.specs.Verdicts.{is_listed}
 use Rattle.http_wire.specs.declared.method.Method.{Method}
 use Rattle.http_wire.specs.declared.method.Method.TheVariants.{Get, Post}

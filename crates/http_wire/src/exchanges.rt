@@ -74,9 +74,6 @@ fn what_a_client_sends_is_read(rt: HostRuntime) -> Result<(), Fail> {
         (CLIENT_POST, "hi"),
         (CLIENT_EMPTY_POST, ""),
         (CLIENT_GET, "/a?b#c"),
-        (WRITTEN_POST, "hi"),
-        (WRITTEN_EMPTY_POST, ""),
-        (WRITTEN_GET, "/a?b#c"),
     ];
     for (text, want) in table {
         assert!(rt; is_asked(rt.alloc(), text, want)?, "{text}");
@@ -90,9 +87,6 @@ fn what_a_server_answers_is_read(rt: HostRuntime) -> Result<(), Fail> {
         (SERVER_OK, "application/octet-stream", "hi", 200),
         (SERVER_NO_CONTENT, "", "", 204),
         (SERVER_NOT_FOUND, "", "", 404),
-        (ANSWERED_OK, "application/octet-stream", "hi", 200),
-        (ANSWERED_NO_CONTENT, "", "", 204),
-        (ANSWERED_NOT_FOUND, "", "", 404),
     ];
     for (text, media, body, want) in table {
         assert_eq!(rt;

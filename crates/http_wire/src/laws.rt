@@ -10,12 +10,15 @@ pub fn one_response()
     ensures { OneResponse }
 {}
 
-/// What `write_request` writes is read by `read_request` at the other side as that request.
+/// What `write_request` writes is what `read_request` takes at the other side, with the same body or path
+/// and no byte behind it, where the path is served and the body has at most 2^24 bytes.
 pub fn written_requests_are_read()
     ensures { WrittenRequests }
 {}
 
-/// What `write_response` writes is read by `read_response` at the other side as that response.
+/// What `write_response` writes is what `read_response` takes at the other side, with the same status,
+/// media type and body and no byte behind it, where the body is within the limit and its length has at
+/// most 18 digits. A response without a body shows no media type.
 pub fn written_responses_are_read()
     ensures { WrittenResponses }
 {}

@@ -3,6 +3,9 @@
 //!
 //! Where a head ends is decided here, at its first empty line. A head that has ended is judged by the
 //! grammar of `httparse`. Each connection serves one message in each direction.
+//!
+//! Each input has exactly one answer (`one_request`, `one_response`), and what is written at one side is
+//! read as the same message at the other (`written_requests_are_read`, `written_responses_are_read`).
 #![tactic(auto)]
 
 mod announced;

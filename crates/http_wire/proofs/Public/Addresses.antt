@@ -1,5 +1,5 @@
 -- The parts of an address may be written into a request.
-use Rattle.std.proofs.Common.{◌≡◌, ◌+◌, ◌≤◌, ℕ, List, ◌++◌, length, ap, arith, length-append, codes, decimal}
+use Rattle.std.proofs.Common.{◌≡◌, ℕ, List, ◌++◌, length, ap, arith, length-append, codes, decimal}
 use Rattle.fetch_uri.specs.Address.{UriIs}
 use Rattle.http_wire.specs.Sending.{IsAuthority, IsTarget}
 
