@@ -127,7 +127,7 @@ def sent_by_server(status, media, body):
 
 
 def read_by_server(text):
-    """What http.server reads out of a request: method, path, host, media type, body, and what is left of the input."""
+    """What http.server reads out of a request: method, path, host, media type, body, what is left, and whether that ends."""
     seen = Server(text)
     if seen.refused:
         return f"refused with {seen.refused}"
@@ -136,11 +136,14 @@ def read_by_server(text):
 
 
 def read_by_client(text):
-    """What http.client reads out of a response: status, media type, body, and what is left."""
+    """What http.client reads out of a response: status, media type, body, and whether the connection ends behind it."""
     response = http.client.HTTPResponse(Socket(text))
-    response.begin()
-    will_close = response.will_close
-    return response.status, response.getheader("Content-Type"), response.read(), will_close
+    try:
+        response.begin()
+        will_close = response.will_close
+        return response.status, response.getheader("Content-Type"), response.read(), will_close
+    except http.client.HTTPException as fault:
+        return f"refused: {fault!r}"
 
 
 def made():

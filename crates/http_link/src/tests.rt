@@ -23,7 +23,7 @@ fn the_input_comes_in_pieces(rt: HostRuntime) -> Result<(), Fail> {
     for want in [Ok(2), Err(Failed), Ok(2), Ok(1), Ok(0)] {
         assert_eq!(rt; link.read(&mut buf), want);
     }
-    assert_eq!(rt; buf, *b"olo\0");
+    assert_eq!(rt; buf, *b"ol\0\0");
     Ok(())
 }
 

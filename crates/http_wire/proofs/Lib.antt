@@ -1,18 +1,18 @@
-pub mod Heads
-pub mod Fronts
-pub mod Firsts
-pub mod Decided
-pub mod Values
-pub mod Digits
-pub mod Judging
-pub mod Joining
-pub mod Media
-pub mod Written
-pub mod Alone
-pub mod AloneBack
-pub mod Lines
-pub mod Seen
-pub mod Numbers
-pub mod Asking
-pub mod Answering
+mod Heads
+mod Fronts
+mod Firsts
+mod Decided
+mod Values
+mod Digits
+mod Judging
+mod Joining
+mod Media
+mod Written
+mod Alone
+mod AloneResponse
+mod Lines
+mod Seen
+mod Numbers
+mod Asking
+mod Answering
 pub mod Public

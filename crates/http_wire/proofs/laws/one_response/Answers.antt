@@ -1,4 +1,4 @@
-use Rattle.http_wire.proofs.AloneBack.{one_response}
+use Rattle.http_wire.proofs.AloneResponse.{one_response}
 use Rattle.http_wire.proofs.laws.one_response.Goals as goal
 
 pub returns : goal.returns
