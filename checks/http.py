@@ -127,12 +127,13 @@ def sent_by_server(status, media, body):
 
 
 def read_by_server(text):
-    """What http.server reads out of a request: method, path, host, media type, body, what is left, and whether that ends."""
+    """What http.server reads out of a request: method, path, fields, body, what is left, and whether the connection ends behind it."""
     seen = Server(text)
     if seen.refused:
         return f"refused with {seen.refused}"
     fields = seen.headers
-    return seen.command, seen.path, fields["Host"], fields["Content-Type"], seen.body, seen.rfile.read(), seen.close_connection
+    named = [fields[name] for name in ("Host", "Accept", "Content-Type", "Content-Length")]
+    return seen.command, seen.path, *named, seen.body, seen.rfile.read(), seen.close_connection
 
 
 def read_by_client(text):
@@ -160,7 +161,8 @@ def faults(texts):
         if texts.get(name) != text:
             yield f"{name}: Python writes {text}, the file has {texts.get(name)}"
     for name, method, path, media, body in REQUESTS:
-        want = (method, path, "127.0.0.1:8080", media if body else None, body or b"", b"", True)
+        size = None if body is None else str(len(body))
+        want = (method, path, "127.0.0.1:8080", media, media if body else None, size, body or b"", b"", True)
         seen = read_by_server(texts.get("WRITTEN_" + name, b""))
         if seen != want:
             yield f"WRITTEN_{name}: Python reads {seen}, and {want} was written"
