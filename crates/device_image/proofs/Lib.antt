@@ -1,0 +1,5 @@
+mod Leading
+mod States
+mod Causes
+mod Replaying
+mod Loading
