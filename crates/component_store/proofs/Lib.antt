@@ -1,0 +1,7 @@
+mod Lists
+mod Holding
+mod HeadsBehind
+mod Replacing
+mod Committing
+mod Weighing
+mod Gathering

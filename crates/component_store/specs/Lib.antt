@@ -1,0 +1,6 @@
+pub mod Keeping
+pub mod Replacing
+pub mod Preparing
+pub mod Outcome
+pub mod Any
+pub mod StoreLaws
