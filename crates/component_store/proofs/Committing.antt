@@ -1,17 +1,16 @@
 -- What the journal leaves of a commit, as states for which the image stands.
-use Rattle.std.proofs.Common.{◌≡◌, ◌≤◌, ◌⊎◌, ℕ, List, [], ◌∷◌, ◌++◌, length, take, refl, sym, ap, subst, ◌∙◌, inl, inr, arith}
+use Rattle.std.proofs.Common.{◌≡◌, ◌≤◌, ℕ, List, ◌++◌, take, sym, ap, subst, inl, inr}
 use Rattle.board_core.specs.Contents.{View}
 use Rattle.board_core.specs.Moments.{SameOutside, Passes, OldOrNew}
 use Rattle.board_core.proofs.Public.Chaining.{widened}
-use Rattle.journal_core.specs.Region.{region_size, RegionStands, Leaves}
-use Rattle.journal_core.specs.Kept.{Kept, Fits}
+use Rattle.journal_core.specs.Region.{region_size, Leaves}
+use Rattle.journal_core.specs.Kept.{Kept}
 use Rattle.journal_core.specs.Outcome.{Makes, StoresWithin}
-use Rattle.device_config.specs.Image.{IsImage, journal_region}
+use Rattle.device_config.specs.Image.{IsImage}
 use Rattle.device_config.proofs.Images.{kept_image}
 use Rattle.device_state.specs.declared.change.Change.{Change}
 use Rattle.device_state.specs.State.{State, changed}
 use Rattle.device_state.specs.Valid.{IsValid}
-use Rattle.commit_records.specs.Changes.{ChangeIs}
 use Rattle.device_image.specs.declared.held.Held.{Held}
 use Rattle.device_image.specs.Held.{Holds, IsSafe, state_of, head_of}
 use Rattle.device_image.specs.Stands.{Leads, Stands}
@@ -34,11 +33,13 @@ module _ (held : Held) (size : ℕ) (safe : IsSafe held size) where
       → Leads (head_of held) bodies (state_of held) → Leads (head_of held) becomes s → IsValid s
       → Passes old new (Leaves held.journal.region bodies becomes old) → Passes old new (OldOrNew Stands (state_of held) s old)
   commit_moments old new bodies becomes s head before behind valid moments = widened moments (λ sent image leaves.
-      (let kept = head_kept old.now.disk.bytes image head leaves.outside in
-      (leaves.sent_same, elim leaves.either [
-        | inl stands ↦ inl (stands_for held size image bodies (state_of held) safe kept stands before safe.valid)
-        | inr stands ↦ inr (stands_for held size image becomes s safe kept stands behind valid)
-      ])))
+      (let kept = head_kept old.now.disk.bytes image head leaves.outside in (
+        leaves.sent_same,
+        elim leaves.either [
+          | inl stands ↦ inl (stands_for held size image bodies (state_of held) safe kept stands before safe.valid)
+          | inr stands ↦ inr (stands_for held size image becomes s safe kept stands behind valid)
+        ],
+      )))
 
 -- the bodies behind the commit lead to the changed state
 pub behind_leads : (held : Held) (change : Change) (framing : Framing) (bodies : List (List ℕ)) → IsFramed held change framing → held.leaf ≤ change.leaf

@@ -1,22 +1,14 @@
 -- What holds of an image holds where room was reserved, and for the state where what is held may be worked on.
-use Rattle.std.proofs.Common.{◌≡◌, ◌≤◌, ℕ, List, Option, Some, None, refl, sym, ap, subst, ◌∙◌}
-use Rattle.trust_anchors.specs.declared.anchors.Anchors.{Anchors}
+use Rattle.std.proofs.Common.{◌≤◌, ℕ, List, sym, ap, subst, ◌∙◌}
 use Rattle.journal_core.specs.declared.region.Region.{Region}
-use Rattle.journal_core.specs.Region.{RegionStands, selected}
 use Rattle.journal_core.specs.Kept.{Kept, Fits, IsWithin, SameBut}
-use Rattle.device_config.specs.declared.config.Config.{Config}
-use Rattle.device_config.specs.Image.{IsImage, journal_region}
-use Rattle.device_state.specs.State.{State, with_anchors}
+use Rattle.device_config.specs.Image.{journal_region}
+use Rattle.device_state.specs.State.{State}
 use Rattle.base_types.specs.declared.limits.TheConstants.{QUOTA_LIMIT}
 use Rattle.device_state.specs.Law.{AreInOrder}
 use Rattle.device_state.specs.Valid.{IsValid}
-use Rattle.device_image.specs.declared.held.Held.{Held}
-use Rattle.device_image.specs.Held.{Holds, IsSafe, state_of, head_of}
-use Rattle.device_image.specs.Stands.{Leads, Stands}
-use Rattle.component_store.specs.declared.any.AnyStore.{AnyStore}
-use Rattle.component_store.specs.declared.any.AnyStore.TheVariants as stores
+use Rattle.device_image.specs.Held.{Holds, IsSafe}
 use Rattle.component_store.specs.Keeping.{Log, IsSameLog, Keeps}
-use Rattle.component_store.specs.Any as any
 
 -- a journal with other room keeps the same bodies
 pub fits_same : (a b : Kept) (image : List ℕ) (bodies : List (List ℕ)) → SameBut a b → Fits a image bodies → Fits b image bodies

@@ -1,6 +1,6 @@
 -- A whole state as bodies: one for each row leads from the head to it, and they have room in a half.
 use Rattle.std.proofs.Common.{◌≡◌, ◌≤◌, ◌<◌, ◌+◌, ◌^◌, ℕ, List, [], ◌∷◌, ◌++◌, length, map, Option, Some, None, Result, Ok, Err, Vec, Global, refl, sym, ap, subst, ◌∙◌, arith}
-use Rattle.std.specs.Prelude.{sum, IfSome, IfOk}
+use Rattle.std.specs.Prelude.{IfOk}
 use Rattle.std.specs.Prelude.{◌==◌, ◌&&◌, Bool, true, false, nat_eq, vec_len}
 use Rattle.std.specs.List.{AllByRecursion}
 use Rattle.std.specs.Cmp.Lexicographic.{pointwise, bytes_decides}
@@ -10,18 +10,18 @@ use Rattle.std.proofs.lemmas.List.Sums.{sum_by-cons}
 use Rattle.journal_core.specs.Frames.{frame, frames, AreBodies}
 use Rattle.std.specs.Int.{to_be_bytes, w32}
 use Rattle.trust_anchors.specs.declared.anchors.Anchors.{Anchors}
-use Rattle.commit_records.specs.Changes.{ChangeIs, HasDigest, HaveDigests, change_room, anchors_room, rows_room}
+use Rattle.commit_records.specs.Changes.{ChangeIs, HasDigest, HaveDigests, anchors_room}
 use Rattle.device_config.specs.declared.config.Config.{Config}
 use Rattle.device_state.specs.declared.change.Change.{Change}
 use Rattle.device_state.specs.declared.rows.ComponentRow.{ComponentRow}
 use Rattle.device_state.specs.declared.rows.ManifestRow.{ManifestRow}
 use Rattle.device_state.specs.State.{State, new_state, changed, folded, put_row, put_rows, ordered, with_anchors, row_weight, rows_weight}
-use Rattle.device_state.specs.Valid.{IsComponent, IsRow, AreFew}
+use Rattle.device_state.specs.Valid.{IsComponent, IsRow}
 use Rattle.device_state.specs.Law.{AreInOrder}
 use Rattle.device_state.proofs.Orders.{changes_keep_order}
 use Rattle.device_image.specs.Stands.{Leads}
 use Rattle.device_image.proofs.Leading.{more_leads, none_leads}
-use Rattle.component_store.specs.Replacing.{row_changes, LeadFor, AnchorsFor}
+use Rattle.component_store.specs.Replacing.{row_changes, LeadFor}
 
 -- ---- what the changes make of a new device
 

@@ -1,5 +1,5 @@
 -- Weights below the greatest number are told as they are.
-use Rattle.std.proofs.Common.{◌≡◌, ◌≤◌, ◌<◌, ◌-◌, ◌^◌, ℕ, min, arith}
+use Rattle.std.proofs.Common.{◌≡◌, ◌≤◌, ◌<◌, ℕ, arith}
 use Rattle.device_state.specs.State.{capped}
 
 pub capped_small : (n : ℕ) → n ≤ 33554432 → capped n ≡ n

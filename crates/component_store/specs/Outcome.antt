@@ -1,6 +1,6 @@
 -- What the calls of a store answer and leave.
-use Rattle.std.specs.Prelude.{◌≡◌, ◌<◌, ◌≤◌, ℕ, List, Option, Result, Ok, Err}
-use Rattle.board_core.specs.Contents.{View, Silent, NothingPending}
+use Rattle.std.specs.Prelude.{◌≡◌, ◌<◌, ◌≤◌, ℕ, List, Result, Ok, Err}
+use Rattle.board_core.specs.Contents.{View, Silent}
 use Rattle.device_config.specs.declared.fault.MountFault.{MountFault}
 use Rattle.device_config.specs.declared.fault.MountFault.TheVariants as mount
 use Rattle.device_state.specs.State.{State, weight}

@@ -1,5 +1,5 @@
 -- What a commit needs before it begins, and that it was made for the store as it stands.
-use Rattle.std.specs.Prelude.{◌≡◌, ◌+◌, ◌<◌, ◌≤◌, ℕ, List, [], ◌∷◌, ◌++◌, length, vec_len, vec_capacity, Option, Some, None}
+use Rattle.std.specs.Prelude.{◌≡◌, ◌+◌, ◌≤◌, ℕ, List, [], ◌∷◌, ◌++◌, length, vec_len, vec_capacity, Option, Some, None}
 use Rattle.journal_core.specs.Frames.{frames}
 use Rattle.journal_core.specs.Kept.{Kept}
 use Rattle.commit_records.specs.Changes.{ChangeIs, IsProperChange}

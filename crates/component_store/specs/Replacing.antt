@@ -1,5 +1,5 @@
 -- A state as changes: each row by itself, the first with the anchors.
-use Rattle.std.specs.Prelude.{◌≡◌, ℕ, List, [], ◌∷◌, Option, Some, None, IfSome}
+use Rattle.std.specs.Prelude.{◌≡◌, ℕ, List, [], ◌∷◌, Option, None, IfSome}
 use Rattle.trust_anchors.specs.declared.anchors.Anchors.{Anchors}
 use Rattle.device_config.specs.declared.config.Config.{Config}
 use Rattle.device_state.specs.declared.change.Change.{Change}

@@ -1,5 +1,5 @@
 -- The image of a store stands for its state.
-use Rattle.std.proofs.Common.{◌≡◌, ℕ, List, Option, Some, None, refl, sym, ap, subst}
+use Rattle.std.proofs.Common.{◌≡◌, ℕ, List, Option, Some, None, refl, sym, subst}
 use Rattle.trust_anchors.specs.declared.anchors.Anchors.{Anchors}
 use Rattle.journal_core.specs.declared.region.Region.{Region}
 use Rattle.journal_core.specs.Region.{RegionStands}

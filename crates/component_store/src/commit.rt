@@ -32,11 +32,7 @@ fn with_room(answer: Result<(), AppendFault>) -> Result<(), Failed>
 }
 
 /// Puts the bodies of a change, for which the journal has room.
-fn write<B: Board>(
-    journal: &mut Journal,
-    board: &mut B,
-    framing: &Framing,
-) -> Result<(), Failed>
+fn write<B: Board>(journal: &mut Journal, board: &mut B, framing: &Framing) -> Result<(), Failed>
     requires room { HasRoomFor journal.old framing.now }
     requires within { IsWithin journal.old.region (B.view board.old).extent }
     ensures done { B.told → OnOk result (Makes (list_behind framing.now) journal.old journal.new (B.view board.old) (B.view board.new)) }

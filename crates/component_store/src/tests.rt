@@ -64,7 +64,11 @@ fn leaf_alone(alloc: Global, leaf: u64) -> Change {
 }
 
 // The image of component 2.
-fn second(alloc: Global, board: &mut MemoryBoard, store: &LogStore) -> Result<Option<Octets>, Fail> {
+fn second(
+    alloc: Global,
+    board: &mut MemoryBoard,
+    store: &LogStore,
+) -> Result<Option<Octets>, Fail> {
     if board.size() != store.size {
         return Err(Failed.into());
     }
@@ -76,11 +80,20 @@ fn an_update_is_there_behind_a_restart(rt: HostRuntime) -> Result<(), Fail> {
     let alloc = rt.alloc();
     let mut board = board_of(alloc, new_image(alloc)?, List::new(alloc))?;
     let mut store = mounted(alloc, &mut board)?;
-    assert_eq!(rt; (store.leaf(), store.weight(), store.rows().len()), (0, 0, 0));
+    assert_eq!(rt;
+        (store.leaf(), store.weight(), store.rows().len()),
+        (0, 0, 0)
+    );
     assert!(rt; second(alloc, &mut board, &store)?.is_none());
-    assert_eq!(rt; commit(alloc, &mut board, &mut store, &update(alloc, 1)?)?, None);
+    assert_eq!(rt;
+        commit(alloc, &mut board, &mut store, &update(alloc, 1)?)?,
+        None
+    );
     for store in [store, mounted(alloc, &mut board)?] {
-        assert_eq!(rt; (store.leaf(), store.weight(), store.rows().len()), (1, 523, 1));
+        assert_eq!(rt;
+            (store.leaf(), store.weight(), store.rows().len()),
+            (1, 523, 1)
+        );
         let image = second(alloc, &mut board, &store)?;
         assert_eq!(rt; image, Some(Octets::from_slice(alloc, b"hello")?));
     }
@@ -88,7 +101,12 @@ fn an_update_is_there_behind_a_restart(rt: HostRuntime) -> Result<(), Fail> {
 }
 
 // What comes of a component of so many bytes in a manifest of its own.
-fn sized(alloc: Global, board: &mut MemoryBoard, store: &mut LogStore, size: usize) -> Result<Option<PrepareFault>, Fail> {
+fn sized(
+    alloc: Global,
+    board: &mut MemoryBoard,
+    store: &mut LogStore,
+    size: usize,
+) -> Result<Option<PrepareFault>, Fail> {
     let rows = manifest(alloc, 1, 2, sevens(alloc, size)?, None)?;
     let change = Change {
         leaf: 1,
@@ -106,8 +124,16 @@ fn the_quota_is_all_that_bounds_a_state(rt: HostRuntime) -> Result<(), Fail> {
     let mut board = board_of(alloc, new_image(alloc)?, List::new(alloc))?;
     let mut store = mounted(alloc, &mut board)?;
     for round in 0..8 {
-        assert_eq!(rt; sized(alloc, &mut board, &mut store, 15_867)?, Some(PrepareFault::Room), "{round}");
-        assert_eq!(rt; sized(alloc, &mut board, &mut store, 15_866)?, None, "{round}");
+        assert_eq!(rt;
+            sized(alloc, &mut board, &mut store, 15_867)?,
+            Some(PrepareFault::Room),
+            "{round}"
+        );
+        assert_eq!(rt;
+            sized(alloc, &mut board, &mut store, 15_866)?,
+            None,
+            "{round}"
+        );
         assert_eq!(rt; store.weight(), 16_384, "{round}");
     }
     assert_eq!(rt; mounted(alloc, &mut board)?.weight(), 16_384);
@@ -156,9 +182,18 @@ fn a_commit_is_stopped_anywhere(rt: HostRuntime) -> Result<(), Fail> {
             assert_eq!(rt; sized(alloc, &mut board, &mut store, 15_866)?, None);
         }
         let first = board.calls();
-        assert_eq!(rt; commit(alloc, &mut board, &mut store, &update(alloc, 1)?)?, None);
+        assert_eq!(rt;
+            commit(alloc, &mut board, &mut store, &update(alloc, 1)?)?,
+            None
+        );
         // the bytes and a sync, and then the gate or the selector and a sync, which makes it count in two of four modes
-        for (call, want) in [(0, (4, 0)), (1, (4, 0)), (2, (2, 2)), (3, (2, 2)), (4, (0, 4))] {
+        for (call, want) in [
+            (0, (4, 0)),
+            (1, (4, 0)),
+            (2, (2, 2)),
+            (3, (2, 2)),
+            (4, (0, 4)),
+        ] {
             let counts = stops(alloc, &board, first.saturating_add(call), [old, new])?;
             assert_eq!(rt; counts, want, "{fill} and call {call}");
         }
@@ -201,7 +236,10 @@ fn a_leaf_alone_takes_two_syncs_and_few_bytes(rt: HostRuntime) -> Result<(), Fai
     let mut store = mounted(alloc, &mut board)?;
     for leaf in 0..33 {
         let (calls, used) = (board.calls(), store.held.journal.used());
-        assert_eq!(rt; commit(alloc, &mut board, &mut store, &leaf_alone(alloc, leaf))?, None);
+        assert_eq!(rt;
+            commit(alloc, &mut board, &mut store, &leaf_alone(alloc, leaf))?,
+            None
+        );
         assert_eq!(rt; board.calls(), calls.saturating_add(4));
         assert!(rt; store.held.journal.used() <= used.saturating_add(63));
     }

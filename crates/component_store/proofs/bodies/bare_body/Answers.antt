@@ -1,6 +1,5 @@
 use Rattle.std.proofs.Common.{ℕ, List, [], ◌∷◌, ◌++◌, ap, subst, sym, ◌∙◌, arith}
 use Rattle.commit_records.specs.Changes.{ChangeIs}
-use Rattle.device_config.specs.declared.config.Config.{Config}
 use Rattle.device_state.specs.declared.change.Change.{Change}
 use Rattle.device_state.specs.declared.rows.ManifestRow.{ManifestRow}
 use Rattle.device_state.specs.State.{new_state, changed}

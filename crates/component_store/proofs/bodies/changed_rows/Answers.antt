@@ -13,7 +13,7 @@ loop-row-preserved c =
     let row : ManifestRow = c.row-item.result in
     let front : drop c.loop-row.row-index more ≡ row ∷ drop (c.loop-row.row-index + 1) more = front_at more c.loop-row.row-index row c.loop-row-test.true c.row-item.is in
     let placed : c.put.new.rows.items ≡ put_row (ordered row) rows = c.put.ensures.put c.loop-row.invariant.order.ascend
-        ∙ ap (λ (r : ManifestRow). put_row r rows) (c.order.ensures ∙ ap ordered c.in_ok-copy.ensures) in
+    ∙ ap (λ (r : ManifestRow). put_row r rows) (c.order.ensures ∙ ap ordered c.in_ok-copy.ensures) in
     record {
       room = omega (arith, ap length front, c.put.ensures.len, c.put.ensures.room, c.loop-row.invariant.room);
       order = subst (λ (l : List ManifestRow). AreInOrder l) (sym placed) (put_keeps (row ∷ []) rows c.loop-row.invariant.order);

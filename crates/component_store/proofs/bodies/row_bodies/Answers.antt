@@ -1,15 +1,11 @@
-use Rattle.std.proofs.Common.{◌≡◌, ◌≤◌, ◌+◌, ℕ, ◌∷◌, [], ◌++◌, List, length, Option, Some, None, refl, ap, sym, subst, ◌∙◌, arith}
-use Rattle.std.specs.Prelude.{IfSome}
+use Rattle.std.proofs.Common.{◌≡◌, ◌∷◌, [], List, Option, None, refl, ap, sym, subst, ◌∙◌, arith}
 use Rattle.std.specs.List.{AllByRecursion}
 use Rattle.std.specs.Vec.Iter.{into_iter_items}
-use Rattle.journal_core.specs.Frames.{frames}
 use Rattle.commit_records.specs.Changes.{ChangeIs, HaveDigests, anchors_room}
 use Rattle.trust_anchors.specs.declared.anchors.Anchors.{Anchors}
-use Rattle.device_config.specs.declared.config.Config.{Config}
 use Rattle.device_state.specs.declared.change.Change.{Change}
 use Rattle.device_state.specs.declared.rows.ManifestRow.{ManifestRow}
-use Rattle.device_state.specs.State.{row_weight, rows_weight}
-use Rattle.device_state.specs.Valid.{AreFew}
+use Rattle.device_state.specs.State.{rows_weight}
 use Rattle.component_store.specs.Replacing.{row_changes}
 use Rattle.component_store.proofs.Replacing.{Going, begun, gone_on, gone_through, frames_more, weight_more}
 use Rattle.component_store.proofs.Lists.{no_more}

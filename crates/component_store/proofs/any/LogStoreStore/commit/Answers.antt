@@ -1,4 +1,4 @@
-use Rattle.std.proofs.Common.{◌≡◌, List, ℕ, Result, Ok, Err}
+use Rattle.std.proofs.Common.{List, ℕ, Result, Ok, Err}
 use Rattle.std.specs.Prelude.{OnOk}
 use Rattle.component_store.specs.Keeping.{Log, Keeps}
 use Rattle.device_image.specs.Held.{Holds, IsSafe}

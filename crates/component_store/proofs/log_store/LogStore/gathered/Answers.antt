@@ -1,5 +1,4 @@
-use Rattle.std.proofs.Common.{◌+◌, ◌≤◌, List, length, ap, sym, subst, ◌∙◌, arith}
-use Rattle.std.specs.Prelude.{vec_len, vec_capacity}
+use Rattle.std.proofs.Common.{ap, ◌∙◌, arith}
 use Rattle.device_image.specs.Held.{state_of}
 use Rattle.component_store.specs.Keeping.{Log}
 use Rattle.component_store.proofs.Gathering.{is_ready}

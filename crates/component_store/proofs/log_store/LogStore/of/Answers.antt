@@ -1,4 +1,4 @@
-use Rattle.std.proofs.Common.{List, ap, sym, ◌∙◌, arith}
+use Rattle.std.proofs.Common.{List, ap, ◌∙◌, arith}
 use Rattle.device_state.specs.declared.heads.RowHead.{RowHead}
 use Rattle.device_state.specs.Heads.{heads, heads_weight}
 use Rattle.device_state.specs.State.{capped, rows_weight}

@@ -1,5 +1,5 @@
 // A store is mounted from the image of a board.
-ghost use Rattle.std.specs.Prelude.{◌≡◌, Err, IfOk, IfTrue};
+ghost use Rattle.std.specs.Prelude.{◌≡◌, Err, IfOk};
 ghost use Rattle.board_core.specs.Contents.{NothingPending};
 ghost use Rattle.board_core.specs.Calls.{DiskCausedBy};
 ghost use Rattle.board_core.specs.Moments.{Passes, NoMoment};
