@@ -20,6 +20,7 @@ quota_same : (o : Option Anchors) (config : Config) → (with_anchors o config).
 quota_same None config = refl
 quota_same (Some anchors) config = refl
 
+-- of what is held too
 pub head_quota : (held : Held) → (head_of held).quota ≡ held.config.quota
 head_quota held = quota_same held.first_anchors held.config
 
@@ -40,11 +41,14 @@ stands_for held size image bodies s safe head region leads valid = record {
   valid = valid;
 }
 
+-- the image that is held stands for the state
 pub held_stands : (held : Held) (size : ℕ) (image : List ℕ) → IsSafe held size → Holds held image → Stands image (state_of held)
 held_stands held size image safe holds = stands_for held size image holds.bodies (state_of held) safe holds.head holds.fits.stands holds.leads safe.valid
 
+-- so does that of a store in memory
 pub log_stands : (log : Log) (image : List ℕ) → Keeps log image → Stands image (state_of log.held)
 log_stands log image keeps = held_stands log.held log.size image keeps.safe keeps.holds
 
+-- and that of a store of any layout
 pub any_stands : (store : AnyStore) (image : List ℕ) → any.keeps store image → Stands image (any.state store)
 any_stands (stores.Log log) image keeps = log_stands log image keeps

@@ -1,4 +1,4 @@
-mod Leading
+pub mod Leading
 mod States
 mod Causes
 mod Replaying

@@ -15,5 +15,6 @@ returns-else-is_empty-clause-lead c =
     let order : AreInOrder c.in_ok-rows.rows.items = subst (λ (rs : List ManifestRow). AreInOrder rs) (sym rows_are) (put_keeps c.args.change.now.rows c.args.held.now.rows.items c.requires.order) in
     led c.row_bodies.result (λ bodies lead.
     subst (λ (rs : List ManifestRow). Leads (head_of c.args.held.now) bodies (record { config = with_anchors c.args.change.now.anchors c.args.held.now.config; leaf = c.args.change.now.leaf; rows = rs })) rows_are
-    (rows_lead c.args.change.now.leaf c.in_ok-anchors.anchors c.in_ok-rows.rows.items (head_of c.args.held.now) (with_anchors c.args.change.now.anchors c.args.held.now.config) bodies order (not_empty c.in_ok-rows.rows (sym c.is_empty.ensures ∙ c.if-is_empty.false)) c.in_ok-anchors.ensures.same lead))
+    (rows_lead c.args.change.now.leaf c.in_ok-anchors.anchors c.in_ok-rows.rows.items (head_of c.args.held.now) (with_anchors c.args.change.now.anchors c.args.held.now.config) bodies order
+    (not_empty c.in_ok-rows.rows (sym c.is_empty.ensures ∙ c.if-is_empty.false)) c.in_ok-anchors.ensures.same lead))
     c.row_bodies.ensures.lead
