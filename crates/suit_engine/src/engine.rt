@@ -104,9 +104,8 @@ fn all_built(alloc: Global, parts: &[Part]) -> OrMemory<List<Built>>
 }
 
 impl Engine {
-    /// An engine for a manifest: its plan, the payloads that are attached to its envelope, and the device
-    /// that it runs on. Nothing waits in it. Payloads and identifiers are copied. Refused for want of
-    /// memory alone.
+    /// An engine for a manifest's plan, the payloads that are attached, and the device. Payloads and
+    /// identifiers are copied, and nothing waits. Refused for want of memory alone.
     pub fn start(
         alloc: Global,
         manifest: &Manifest,
@@ -138,8 +137,8 @@ impl Engine {
     /// `Failed` with the word of what failed: `Condition` for a condition that does not hold and for an
     /// abort; `Payload` where a URI, its payload, the content or the source's bytes are missing, where a
     /// fetch failed, or where the bytes are above `PAYLOAD_LIMIT`; `Fetches` where a payload is needed and
-    /// 16 entries are there. A try-each catches the first two words alone. After `Done` and `Failed`
-    /// nothing waits. Refused for want of memory alone, and nothing waits then.
+    /// 16 entries are there. A try-each catches the first two words alone. Refused for want of memory
+    /// alone. But after `Need` nothing waits, and a later call runs from the start.
     ///
     /// The work is linear in the sequences that are run, beside the hashes. A payload that is fetched is
     /// copied once when it is fetched, and an attached one was copied at `start`; each is copied once
@@ -162,23 +161,16 @@ impl Engine {
     /// Goes on from where the run waits, with what was fetched so far; where nothing waits, runs the
     /// manifest from the start.
     ///
-    /// The entries are those of the call before, and behind them what came since: with the law
-    /// `waits_on` the `ensures` of that call gives the `requires` of this one. The outcome is that of a
-    /// run from the start, as `go` tells it, and so is what waits afterwards. Refused for want of memory
-    /// alone; nothing waits then, and the next call runs from the start.
-    ///
-    /// The work is that of the command that waited and of those behind it: no command that was done is
-    /// done again, and no payload that a component has is copied or hashed again but into the outcome.
+    /// The entries are those of the call before, with what came since behind them: by the law `waits_on`
+    /// what that call ensures gives what this one requires. Outcome, refusal and what waits afterwards
+    /// are those of `go`. The work is that of the command that waited and of those behind it: no command
+    /// is done again, and no payload that a component has is copied again but into the outcome.
     pub fn resume(&mut self, env: &Env) -> OrMemory<Outcome>
-        // From where it waits it goes on, with these entries, as a run from the start goes.
+        // From where it waits it goes on, with these entries and any behind them, as a run from the start.
         requires { GoesOn self.old env.now }
-        // It is the outcome of the run.
         ensures outcome { IfOk result (RunsFor self.old env.now) }
-        // The engine is for the same.
         ensures same { SameRun self.old self.new }
-        // From where it waits it goes on, with these entries and any behind them, as a run from the start goes.
         ensures waits { GoesOn self.new env.now }
-        // It waits exactly where a payload is needed.
         ensures suspended { WaitsAfter result self.new }
     {
         let Some(waiting) = self.waiting.take() else {

@@ -25,13 +25,11 @@ pub(crate) fn go_on_sequence(
         Place::Command { number, within } => {
             go_on_from(commands, number, world, within.into_inner())
         }
-        Place::Fetch(_) => Err(Stop::Failed(Word::Condition)),
-        Place::Alternative { .. } => Err(Stop::Failed(Word::Condition)),
+        Place::Fetch(_) | Place::Alternative { .. } => Err(Stop::Failed(Word::Condition)),
     }
 }
 
-/// Goes on in the command of a number from a place in it, and runs the commands behind. Fails where
-/// there is no such command.
+/// Goes on in the command of a number, which fails where it is not there, and in those behind.
 #[cycle(going)]
 fn go_on_from(
     commands: &[Command],

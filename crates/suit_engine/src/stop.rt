@@ -4,7 +4,7 @@ use crate::outcome::Word;
 use crate::pass::Pass;
 use crate::place::Place;
 use crate::state::State;
-use base_types::{NoMemory, Utf8};
+use base_types::{Boxed, NoMemory, Utf8};
 use std::alloc::Global;
 
 /// Why a run does not go on.
@@ -49,8 +49,8 @@ impl Stop {
     {
         match self {
             Stop::Failed(word) => Stop::Failed(word),
-            Stop::Needed(uri, within) => match Place::at_command(alloc, number, within) {
-                Ok(place) => Stop::Needed(uri, place),
+            Stop::Needed(uri, within) => match Boxed::new(alloc, within) {
+                Ok(within) => Stop::Needed(uri, Place::Command { number, within }),
                 Err(NoMemory) => Stop::NoMemory,
             },
             Stop::NoMemory => Stop::NoMemory,
@@ -63,12 +63,17 @@ impl Stop {
     {
         match self {
             Stop::Failed(word) => Stop::Failed(word),
-            Stop::Needed(uri, within) => {
-                match Place::at_alternative(alloc, number, before, within) {
-                    Ok(place) => Stop::Needed(uri, place),
-                    Err(NoMemory) => Stop::NoMemory,
-                }
-            }
+            Stop::Needed(uri, within) => match Boxed::new(alloc, within) {
+                Ok(within) => Stop::Needed(
+                    uri,
+                    Place::Alternative {
+                        number,
+                        before,
+                        within,
+                    },
+                ),
+                Err(NoMemory) => Stop::NoMemory,
+            },
             Stop::NoMemory => Stop::NoMemory,
         }
     }
