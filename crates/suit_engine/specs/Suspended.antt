@@ -35,8 +35,8 @@ going_on_from (Some waiting) e env = pass_goes_on (world_of e env) e.plan waitin
 abbrev pub going_on : Contents → List Fetched → Step
 going_on e env = going_on_from e.waiting e env
 
--- with these entries, and with any behind them, going on is what a run from the start is
-abbrev pub GoesOn : Contents → List Fetched → Type 0
+-- With these entries, and with any behind them, going on is what a run from the start is.
+unfoldable pub GoesOn : Contents → List Fetched → Type 0
 GoesOn e env = (more : List Fetched) → going_on e (env ++ more) ≡ run_of e (env ++ more)
 
 -- a run waits exactly where it has the outcome that a payload is needed
