@@ -5,3 +5,4 @@ mod Replacing
 mod Committing
 mod Weighing
 mod Gathering
+mod Following

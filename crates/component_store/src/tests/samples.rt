@@ -1,17 +1,14 @@
 // A device with quota 16,384, its changes, and changes that are looked over before they are prepared.
-ghost use Rattle.std.specs.Prelude.{◌≡◌, ◌↔◌, IfOk, IsTrue};
-ghost use Rattle.device_state.specs.State.{with_anchors};
+ghost use Rattle.std.specs.Prelude.{IfOk, IfSome, IsTrue};
+ghost use Rattle.device_state.specs.Valid.{AreFew};
 ghost use Rattle.device_config.specs.Config.{IsConfig};
 ghost use Rattle.device_image.specs.Held.{state_of};
-ghost use Rattle.component_store.specs.Preparing.{MayFollow};
+ghost use Rattle.component_store.specs.Preparing.{IsReady, MayFollow};
 
 use crate::bodies::changed_rows;
-use crate::change::copied_anchors;
 use crate::{Change, ComponentRow, Config, LogStore, ManifestRow, PrepareFault, Prepared, Store};
 use base_types::{Failed, List, Octets, OrMemory};
-use device_image::Held;
 use device_state::is_sound;
-use evidence::DeviceIds;
 use hss_verify::HssPublic;
 use std::alloc::Global;
 use std::test::Fail;
@@ -115,27 +112,14 @@ pub(crate) fn sevens(alloc: Global, count: usize) -> OrMemory<Octets> {
     Ok(bytes)
 }
 
-// The configuration behind a change.
-fn config_behind(alloc: Global, held: &Held, change: &Change) -> OrMemory<Config>
-    ensures { IfOk result (λ it. it ≡ with_anchors change.now.anchors held.now.config) }
+// Whether there are at most 16 keys of each role, where there are any.
+fn are_few(anchors: &Option<Anchors>) -> bool
+    ensures { IsTrue result → IfSome anchors.now AreFew }
 {
-    let config = &held.config;
-    let device = DeviceIds {
-        vendor: config.device.vendor.try_clone(alloc)?,
-        class: config.device.class.try_clone(alloc)?,
-        device: config.device.device.try_clone(alloc)?,
-    };
-    let anchors = match &change.anchors {
-        Some(anchors) => copied_anchors(alloc, anchors)?,
-        None => copied_anchors(alloc, &config.anchors)?,
-    };
-    Ok(Config {
-        device,
-        quota: config.quota,
-        params: config.params,
-        key_seed: config.key_seed.try_clone(alloc)?,
-        anchors,
-    })
+    match anchors {
+        Some(anchors) => anchors.manager.len() <= 16 && anchors.author.len() <= 16,
+        None => true,
+    }
 }
 
 // Whether a change may be prepared.
@@ -143,12 +127,14 @@ fn may_follow(alloc: Global, store: &LogStore, change: &Change) -> OrMemory<bool
     ensures { IfOk result (λ may. IsTrue may → MayFollow change.now (state_of store.now.held)) }
 {
     let held = &store.held;
-    let config = config_behind(alloc, held, change)?;
     let rows = changed_rows(alloc, held.rows.as_slice(), change.rows.as_slice())?;
-    if change.leaf < held.leaf || !is_sound(alloc, &config, change.leaf, rows.as_slice())? {
+    if change.leaf < held.leaf || !are_few(&change.anchors) {
         return Ok(false);
     }
-    is_sound(alloc, &config, change.leaf, change.rows.as_slice())
+    if !is_sound(alloc, &held.config, change.leaf, change.rows.as_slice())? {
+        return Ok(false);
+    }
+    is_sound(alloc, &held.config, change.leaf, rows.as_slice())
 }
 
 // A change that may be prepared, made ready.
@@ -157,7 +143,7 @@ pub(crate) fn prepared(
     store: &mut LogStore,
     change: &Change,
 ) -> Result<Result<Prepared, PrepareFault>, Fail>
-    ensures { IfOk result (λ answer. IfOk answer (LogStore.ready store.new)) }
+    ensures { IfOk result (λ answer. IfOk answer (IsReady store.new)) }
 {
     if !may_follow(alloc, store, change)? {
         return Err(Failed.into());
