@@ -96,9 +96,53 @@ fn resumes(alloc: Global, engine: &mut Engine, env: &mut Env, told: &Told<'_>) -
     requires { GoesOn engine.old env.old }
     ensures { OnOk result (GoesOn engine.new env.new) }
 {
-    env.push(entry(alloc, told)?)?;
+    let one = entry(alloc, told)?;
+    env.push(one)?;
     let outcome = engine.resume(env)?;
     Ok(is(&outcome, &told.want))
+}
+
+fn made(alloc: Global, count: usize, fetch: &[u8], install: &[u8]) -> Result<Engine, Fail> {
+    let plan = plan(alloc, NONE, fetch, install, NONE)?;
+    let hello = Octets::from_slice(alloc, &HELLO)?;
+    Ok(engine(alloc, count, plan, hello)?)
+}
+
+// Whether an engine that goes on and one that begins anew come to what is wanted with an entry more.
+fn step_true(
+    alloc: Global,
+    waiting: &mut Engine,
+    anew: &mut Engine,
+    env: &mut Env,
+    step: &Told<'_>,
+) -> OrMemory<bool>
+    requires { GoesOn waiting.old env.old }
+    ensures { OnOk result (GoesOn waiting.new env.new) }
+{
+    if !resumes(alloc, waiting, env, step)? {
+        return Ok(false);
+    }
+    begins(anew, env, &step.want)
+}
+
+// The same of each step, behind what they come to at first.
+fn steps_true(
+    alloc: Global,
+    waiting: &mut Engine,
+    anew: &mut Engine,
+    first: &Want<'_>,
+    steps: &[Told<'_>],
+) -> OrMemory<bool> {
+    let mut env = List::new(alloc);
+    if !begins(waiting, &env, first)? {
+        return Ok(false);
+    }
+    for step in steps {
+        if !step_true(alloc, waiting, anew, &mut env, step)? {
+            return Ok(false);
+        }
+    }
+    Ok(true)
 }
 
 // Whether sequences come to this first, and then at each step to what is wanted: going on, and from
@@ -111,23 +155,9 @@ fn comes_true(
     first: &Want<'_>,
     steps: &[Told<'_>],
 ) -> Result<bool, Fail> {
-    let one = plan(alloc, NONE, fetch, install, NONE)?;
-    let mut waiting = engine(alloc, count, one, Octets::from_slice(alloc, &HELLO)?)?;
-    let two = plan(alloc, NONE, fetch, install, NONE)?;
-    let mut anew = engine(alloc, count, two, Octets::from_slice(alloc, &HELLO)?)?;
-    let mut env = List::new(alloc);
-    if !begins(&mut waiting, &env, first)? {
-        return Ok(false);
-    }
-    for step in steps {
-        if !resumes(alloc, &mut waiting, &mut env, step)? {
-            return Ok(false);
-        }
-        if !begins(&mut anew, &env, &step.want)? {
-            return Ok(false);
-        }
-    }
-    Ok(true)
+    let mut waiting = made(alloc, count, fetch, install)?;
+    let mut anew = made(alloc, count, fetch, install)?;
+    Ok(steps_true(alloc, &mut waiting, &mut anew, first, steps)?)
 }
 
 #[test]

@@ -7,4 +7,4 @@ use Rattle.engine_tests.proofs.resumed.resumes.Goals as goal
 pub resume-requires : goal.resume-requires
 resume-requires c =
     let P : List Fetched → Type 0 = λ env. GoesOn c.args.engine.now env in
-    subst P (sym c.in_ok-push.ensures.ok) (waits_on c.args.engine.now c.args.env.now (c.in_ok-entry.entry ∷ []) c.requires)
+    subst P (sym c.in_ok-push.ensures.ok) (waits_on c.args.engine.now c.args.env.now (c.in_ok-one.one ∷ []) c.requires)
