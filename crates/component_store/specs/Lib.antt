@@ -2,5 +2,5 @@ pub mod Keeping
 pub mod Replacing
 pub mod Preparing
 pub mod Outcome
-pub mod Any
+pub mod Stores
 pub mod StoreLaws

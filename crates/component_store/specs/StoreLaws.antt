@@ -13,7 +13,7 @@ use Rattle.device_image.specs.Stands.{Leads, Stands}
 use Rattle.component_store.specs.declared.any.AnyStore.{AnyStore}
 use Rattle.component_store.specs.declared.any.AnyStore.TheVariants as stores
 use Rattle.component_store.specs.Keeping.{Log, Keeps}
-use Rattle.component_store.specs.Any as any
+use Rattle.component_store.specs.Stores as any
 
 -- the head has the quota of the present
 quota_same : (o : Option Anchors) (config : Config) → (with_anchors o config).quota ≡ config.quota

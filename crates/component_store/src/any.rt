@@ -68,15 +68,15 @@ pub enum AnyStore {
 
 impl Store for AnyStore {
     ghost use Rattle.component_store.specs.StoreLaws.{any_stands};
-    ghost use Rattle.component_store.specs.Any as Any;
+    ghost use Rattle.component_store.specs.Stores as Stores;
 
-    ghost state = { Any.state };
+    ghost state = { Stores.state };
 
-    ghost extent = { Any.extent };
+    ghost extent = { Stores.extent };
 
-    ghost keeps = { Any.keeps };
+    ghost keeps = { Stores.keeps };
 
-    ghost ready = { Any.ready };
+    ghost ready = { Stores.ready };
 
     ghost stands = { any_stands };
 

@@ -3,7 +3,7 @@ ghost use Rattle.std.specs.Prelude.{◌≡◌, Err, IfOk};
 ghost use Rattle.board_core.specs.Contents.{NothingPending};
 ghost use Rattle.board_core.specs.Calls.{DiskCausedBy};
 ghost use Rattle.board_core.specs.Moments.{Passes, NoMoment};
-ghost use Rattle.component_store.specs.Any.{extent, keeps};
+ghost use Rattle.component_store.specs.Stores.{extent, keeps};
 ghost use Rattle.component_store.specs.Outcome.{MountedAs, SyncedAlone};
 
 use crate::any::AnyStore;
