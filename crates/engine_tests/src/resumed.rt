@@ -145,6 +145,39 @@ fn steps_true(
     Ok(true)
 }
 
+fn beside_one(
+    alloc: Global,
+    mut waiting: Engine,
+    anew: &mut Engine,
+    first: &Want<'_>,
+    steps: &[Told<'_>],
+) -> OrMemory<bool> {
+    steps_true(alloc, &mut waiting, anew, first, steps)
+}
+
+fn both_true(
+    alloc: Global,
+    waiting: Engine,
+    mut anew: Engine,
+    first: &Want<'_>,
+    steps: &[Told<'_>],
+) -> OrMemory<bool> {
+    beside_one(alloc, waiting, &mut anew, first, steps)
+}
+
+fn beside(
+    alloc: Global,
+    waiting: Engine,
+    anew: Result<Engine, Fail>,
+    first: &Want<'_>,
+    steps: &[Told<'_>],
+) -> Result<bool, Fail> {
+    match anew {
+        Ok(anew) => Ok(both_true(alloc, waiting, anew, first, steps)?),
+        Err(fault) => Err(fault),
+    }
+}
+
 // Whether sequences come to this first, and then at each step to what is wanted: going on, and from
 // the start.
 fn comes_true(
@@ -155,9 +188,9 @@ fn comes_true(
     first: &Want<'_>,
     steps: &[Told<'_>],
 ) -> Result<bool, Fail> {
-    let mut waiting = made(alloc, count, fetch, install)?;
-    let mut anew = made(alloc, count, fetch, install)?;
-    Ok(steps_true(alloc, &mut waiting, &mut anew, first, steps)?)
+    let waiting = made(alloc, count, fetch, install)?;
+    let anew = made(alloc, count, fetch, install);
+    beside(alloc, waiting, anew, first, steps)
 }
 
 #[test]
