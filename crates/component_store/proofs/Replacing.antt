@@ -154,3 +154,12 @@ pub anchors_same : (a b : Anchors) → (pointwise (pointwise nat_eq) a.manager b
 anchors_same a b is =
     let both = and_true (pointwise (pointwise nat_eq) a.manager b.manager) (pointwise (pointwise nat_eq) a.author b.author) is in
     ap (λ (ks : List (List ℕ)). the_anchors ks a.author) (keys_same a.manager b.manager both.0) ∙ ap (the_anchors b.manager) (keys_same a.author b.author both.1)
+
+keys_equal : (ks : List (List ℕ)) → pointwise (pointwise nat_eq) ks ks ≡ true
+keys_equal ks = (slice_eq-Decides {E = pointwise nat_eq} bytes_decides ks ks (pointwise (pointwise nat_eq) ks ks) refl).1 refl
+
+-- anchors that are the same are found to be
+pub anchors_equal : (a b : Anchors) → a ≡ b → (pointwise (pointwise nat_eq) a.manager b.manager && pointwise (pointwise nat_eq) a.author b.author) ≡ true
+anchors_equal a b is =
+    subst (λ (c : Anchors). (pointwise (pointwise nat_eq) a.manager c.manager && pointwise (pointwise nat_eq) a.author c.author) ≡ true) is
+    (rw (keys_equal a.manager, keys_equal a.author) refl)

@@ -17,7 +17,8 @@ row_changes leaf anchors (row ∷ rows) = record { leaf = leaf; rows = row ∷ [
 abbrev pub LeadFor : List Change → List (List ℕ) → Type 0
 LeadFor changes bodies = (config : Config) → Leads config bodies (folded changes (new_state config))
 
--- set in the head they make the configuration, and they may be written; none where it is that already
+-- set in the head they make the configuration, there are none where the head has its anchors already, and they may be written
 pub record AnchorsFor (head becomes : Config) (anchors : Option Anchors) : Type 0 where
   pub same : with_anchors anchors head ≡ becomes
+  pub none : becomes.anchors ≡ head.anchors → anchors ≡ None
   pub few : AreFew becomes.anchors → IfSome anchors AreFew

@@ -3,7 +3,6 @@ ghost use Rattle.std.specs.Prelude.{◌≡◌, ◌≤◌, ◌+◌, IfOk, IfSome,
 ghost use Rattle.std.specs.List.{AllByRecursion};
 ghost use Rattle.journal_core.specs.Frames.{frames};
 ghost use Rattle.commit_records.specs.Changes.{ChangeIs, HaveDigests, change_room, anchors_room, rows_room};
-ghost use Rattle.std.specs.Prelude.{vec_len, vec_capacity};
 ghost use Rattle.device_config.specs.declared.config.Config.{Config};
 ghost use Rattle.device_state.specs.State.{changed, put_rows, with_anchors, rows_weight};
 ghost use Rattle.device_state.specs.Valid.{AreFew, IsValid};
@@ -13,26 +12,13 @@ ghost use Rattle.device_image.specs.Stands.{Leads};
 ghost use Rattle.component_store.specs.Preparing.{MayFollow};
 ghost use Rattle.component_store.specs.Replacing.{LeadFor, row_changes, AnchorsFor};
 
-use crate::change::copied_anchors;
+use crate::change::{copied_anchors, copied_rows};
 use base_types::{List, Octets, OrMemory};
 use commit_records::write_change;
 use device_image::Held;
 use device_state::{Change, ManifestRow, put};
 use std::alloc::Global;
 use trust_anchors::Anchors;
-
-/// Copies of rows, with room for so many more.
-fn copied_rows(alloc: Global, rows: &[ManifestRow], more: usize) -> OrMemory<Vec<ManifestRow>>
-    ensures rows { IfOk result (λ it. it.items ≡ rows.now) }
-    ensures room { IfOk result (λ it. vec_len it + more ≤ vec_capacity it) }
-{
-    let mut copies = Vec::new(alloc);
-    for row in rows {
-        copies.push(row.copy(alloc)?)?;
-    }
-    copies.reserve(more)?;
-    Ok(copies)
-}
 
 /// The rows that a change makes of others, copied.
 pub(crate) fn changed_rows(

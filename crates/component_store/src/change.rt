@@ -1,5 +1,5 @@
 // Copies of what a change has.
-ghost use Rattle.std.specs.Prelude.{◌≡◌, IfOk};
+ghost use Rattle.std.specs.Prelude.{◌≡◌, ◌+◌, ◌≤◌, IfOk, vec_len, vec_capacity};
 
 use base_types::{List, OrMemory};
 use device_state::{Change, ManifestRow};
@@ -27,14 +27,20 @@ pub(crate) fn copied_anchors(alloc: Global, anchors: &Anchors) -> OrMemory<Ancho
     Ok(Anchors { manager, author })
 }
 
-/// Copies of rows.
-fn copied_rows(alloc: Global, rows: &List<ManifestRow>) -> OrMemory<List<ManifestRow>>
-    ensures { IfOk result (λ it. it ≡ rows.now) }
+/// Copies of rows, with room for so many more.
+pub(crate) fn copied_rows(
+    alloc: Global,
+    rows: &[ManifestRow],
+    more: usize,
+) -> OrMemory<Vec<ManifestRow>>
+    ensures rows { IfOk result (λ it. it.items ≡ rows.now) }
+    ensures room { IfOk result (λ it. vec_len it + more ≤ vec_capacity it) }
 {
-    let mut copies = List::new(alloc);
-    for row in rows.as_slice() {
+    let mut copies = Vec::new(alloc);
+    for row in rows {
         copies.push(row.copy(alloc)?)?;
     }
+    copies.reserve(more)?;
     Ok(copies)
 }
 
@@ -42,7 +48,7 @@ fn copied_rows(alloc: Global, rows: &List<ManifestRow>) -> OrMemory<List<Manifes
 pub(crate) fn copied_change(alloc: Global, change: &Change) -> OrMemory<Change>
     ensures { IfOk result (λ it. it ≡ change.now) }
 {
-    let rows = copied_rows(alloc, &change.rows)?;
+    let rows = List::from_vec(copied_rows(alloc, change.rows.as_slice(), 0)?);
     let anchors = match &change.anchors {
         Some(anchors) => Some(copied_anchors(alloc, anchors)?),
         None => None,

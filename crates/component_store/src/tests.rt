@@ -89,7 +89,7 @@ fn told_of(alloc: Global, board: &mut MemoryBoard) -> Result<(u64, u64, usize), 
     Ok(told(&mounted(alloc, board)?))
 }
 
-// The image of component 2, behind its length.
+// The image of component 2, or the word `none`.
 fn second(alloc: Global, board: &mut MemoryBoard, store: &LogStore) -> Result<Octets, Fail> {
     if board.size() != store.size {
         return Err(Failed.into());
