@@ -1,18 +1,22 @@
 -- What the journal leaves of a commit, as states for which the image stands.
-use Rattle.std.proofs.Common.{◌≡◌, ◌≤◌, ℕ, List, ◌++◌, take, sym, ap, subst, inl, inr}
+use Rattle.std.proofs.Common.{◌≡◌, ◌≤◌, ℕ, List, ◌++◌, take, Option, Some, None, refl, sym, ◌∙◌, ap, subst, inl, inr}
 use Rattle.board_core.specs.Contents.{View}
 use Rattle.board_core.specs.Moments.{SameOutside, Passes, OldOrNew}
 use Rattle.board_core.proofs.Public.Chaining.{widened}
 use Rattle.journal_core.specs.Region.{region_size, Leaves}
-use Rattle.journal_core.specs.Kept.{Kept}
+use Rattle.journal_core.specs.declared.region.Region.{Region}
+use Rattle.journal_core.specs.Kept.{Kept, IsWithin}
 use Rattle.journal_core.specs.Outcome.{Makes, StoresWithin}
-use Rattle.device_config.specs.Image.{IsImage}
+use Rattle.trust_anchors.specs.declared.anchors.Anchors.{Anchors}
+use Rattle.device_config.specs.declared.config.Config.{Config}
+use Rattle.device_config.specs.Image.{IsImage, journal_region}
 use Rattle.device_config.proofs.Images.{kept_image}
 use Rattle.device_state.specs.declared.change.Change.{Change}
-use Rattle.device_state.specs.State.{State, changed}
+use Rattle.device_state.specs.State.{State, changed, with_anchors}
+use Rattle.device_state.specs.Law.{AreInOrder}
 use Rattle.device_state.specs.Valid.{IsValid}
 use Rattle.device_image.specs.declared.held.Held.{Held}
-use Rattle.device_image.specs.Held.{Holds, IsSafe, state_of, head_of}
+use Rattle.device_image.specs.Held.{Holds, IsDevice, IsSafe, state_of, head_of}
 use Rattle.device_image.specs.Stands.{Leads, Stands}
 use Rattle.device_image.proofs.Leading.{more_leads}
 use Rattle.component_store.specs.declared.prepared.Framing.{Framing}
@@ -65,3 +69,27 @@ pub ready_moments : (held : Held) (size : ℕ) (p : Prepared) (old behind : View
 ready_moments held size p old behind safe ready holds moments =
     commit_moments held size safe old behind holds.bodies (list_behind p.framing holds.bodies) (changed p.change (state_of held)) holds.head holds.leads
     (behind_leads held p.change p.framing holds.bodies ready.framed.framed ready.leaf holds.leads) ready.valid moments
+
+-- other anchors leave what is the device's
+device_behind : (anchors : Option Anchors) (config : Config) → IsDevice config → IsDevice (with_anchors anchors config)
+device_behind None config is = is
+device_behind (Some anchors) config is = record { ids = is.ids; quota = is.quota; params = is.params; seed = is.seed }
+
+same_quota : (anchors : Option Anchors) (config : Config) → (with_anchors anchors config).quota ≡ config.quota
+same_quota None config = refl
+same_quota (Some anchors) config = refl
+
+-- the configuration behind a change is that of a device
+device_changed : (held new : Held) (change : Change) → IsDevice held.config → state_of new ≡ changed change (state_of held) → IsDevice new.config
+device_changed held new change is state = subst IsDevice (sym (ap (λ (s : State). s.config) state)) (device_behind change.anchors held.config is)
+
+-- what is held behind a change may be worked on
+pub safe_behind : (held new : Held) (size : ℕ) (change : Change) → IsSafe held size → IsValid (changed change (state_of held)) → state_of new ≡ changed change (state_of held)
+    → AreInOrder new.rows.items → new.journal.region ≡ held.journal.region → IsSafe new size
+safe_behind held new size change safe valid state order region = record {
+  valid = subst IsValid (sym state) valid;
+  order = order;
+  device = device_changed held new change safe.device state;
+  region = region ∙ safe.region ∙ ap journal_region (sym (ap (λ (s : State). s.config.quota) state ∙ same_quota change.anchors held.config));
+  within = subst (λ (r : Region). IsWithin r size) (sym region) safe.within;
+}

@@ -4,10 +4,9 @@ use Rattle.journal_core.specs.declared.region.Region.{Region}
 use Rattle.journal_core.specs.Kept.{Kept, Fits, IsWithin, SameBut}
 use Rattle.device_config.specs.Image.{journal_region}
 use Rattle.device_state.specs.State.{State}
-use Rattle.base_types.specs.declared.limits.TheConstants.{QUOTA_LIMIT}
 use Rattle.device_state.specs.Law.{AreInOrder}
 use Rattle.device_state.specs.Valid.{IsValid}
-use Rattle.device_image.specs.Held.{Holds, IsSafe}
+use Rattle.device_image.specs.Held.{Holds, IsDevice, IsSafe}
 use Rattle.component_store.specs.Keeping.{Log, IsSameLog, Keeps}
 
 -- a journal with other room keeps the same bodies
@@ -31,7 +30,7 @@ pub safe_same : (a b : Log) → IsSameLog a b → IsSafe a.held a.size → IsSaf
 safe_same a b same safe = record {
   valid = subst IsValid (sym same.state) safe.valid;
   order = subst AreInOrder (sym (ap (λ (s : State). s.rows) same.state)) safe.order;
-  quota = subst (λ (q : ℕ). q ≤ QUOTA_LIMIT) (sym (ap (λ (s : State). s.config.quota) same.state)) safe.quota;
+  device = subst IsDevice (sym (ap (λ (s : State). s.config) same.state)) safe.device;
   region = same.journal.region ∙ safe.region ∙ ap (λ (s : State). journal_region s.config.quota) (sym same.state);
   within = subst (λ (n : ℕ). IsWithin b.held.journal.region n) (sym same.size) (subst (λ (r : Region). IsWithin r a.size) (sym same.journal.region) safe.within);
 }

@@ -7,6 +7,7 @@ ghost use Rattle.device_state.specs.State.{State, changed};
 ghost use Rattle.device_state.specs.State as States;
 ghost use Rattle.device_state.specs.Heads as Heads;
 ghost use Rattle.device_state.specs.Valid.{IsValid};
+ghost use Rattle.device_image.specs.Held.{IsDevice};
 ghost use Rattle.device_image.specs.Stands.{Stands};
 ghost use Rattle.component_store.specs.Keeping.{image_in};
 ghost use Rattle.component_store.specs.Preparing.{MayFollow};
@@ -43,7 +44,8 @@ pub trait Store {
 
     /// The configuration, with the anchors of the present.
     fn config(&self) -> &Config
-        ensures { result.now ≡ (state self.now).config };
+        ensures config { result.now ≡ (state self.now).config }
+        ensures device { IsDevice (state self.now).config };
 
     /// How many leaves of the key are used.
     fn leaf(&self) -> u64

@@ -18,17 +18,26 @@ use Rattle.device_state.specs.State.{State, new_state, with_anchors}
 use Rattle.device_state.specs.Valid.{IsValid}
 use Rattle.device_image.specs.declared.held.Held.{Held}
 use Rattle.device_image.specs.Stands.{Leads, Stands}
-use Rattle.device_image.specs.Held.{state_of, head_of, IsSafe, LoadedAs}
+use Rattle.device_image.specs.Held.{state_of, head_of, IsDevice, IsSafe, LoadedAs}
 use Rattle.device_image.specs.Replay.{IsNew, FitsAlone, BegunAs, IsOf, FinishedAs}
 
--- the quota of a configuration is within its limit
+-- a configuration is that of a device
+pub is_device : (config : Config) → IsConfig config → IsDevice config
+is_device config is = let parts = sizes.within config is.0 is.1 in record { ids = parts.device; quota = parts.quota_most; params = parts.params; seed = parts.seed }
+
+-- its quota is within its limit
 pub small_quota : (config : Config) → IsConfig config → config.quota ≤ QUOTA_LIMIT
-small_quota config is = (sizes.within config is.0 is.1).quota_most
+small_quota config is = (is_device config is).quota
 
 -- other anchors leave the quota
 same_quota : (anchors : Option Anchors) (config : Config) → (with_anchors anchors config).quota ≡ config.quota
 same_quota None config = refl
 same_quota (Some anchors) config = refl
+
+-- and what is the device's
+same_device : (anchors : Option Anchors) (config : Config) → IsDevice (with_anchors anchors config) → IsDevice config
+same_device None config is = is
+same_device (Some anchors) config is = record { ids = is.ids; quota = is.quota; params = is.params; seed = is.seed }
 
 -- the head of what is held for a new device is its configuration
 new_head : (config : Config) (held : Held) → IsNew config held → head_of held ≡ config
@@ -45,22 +54,22 @@ begun_small config held new small = subst (λ (c : Config). c.quota ≤ QUOTA_LI
 kept_quota : (config : Config) (held later : Held) → IsNew config held → IsOf held later → later.config.quota ≡ config.quota
 kept_quota config held later new is_of = sym (same_quota later.first_anchors later.config) ∙ ap (λ (c : Config). c.quota) (is_of.head ∙ new_head config held new)
 
-small_kept : (config : Config) (held later : Held) → IsNew config held → IsOf held later → config.quota ≤ QUOTA_LIMIT → later.config.quota ≤ QUOTA_LIMIT
-small_kept config held later new is_of small = subst (λ (n : ℕ). n ≤ QUOTA_LIMIT) (sym (kept_quota config held later new is_of)) small
+device_kept : (config : Config) (held later : Held) → IsNew config held → IsOf held later → IsDevice config → IsDevice later.config
+device_kept config held later new is_of is = same_device later.first_anchors later.config (subst IsDevice (sym (is_of.head ∙ new_head config held new)) is)
 
 -- what is safe whatever the board tells
-pub finished_safe : (config : Config) (held : Held) (extent : ℕ) (r : Result Held MountFault) → IsNew config held → config.quota ≤ QUOTA_LIMIT → IsWithin (journal_region config.quota) extent
+pub finished_safe : (config : Config) (held : Held) (extent : ℕ) (r : Result Held MountFault) → IsNew config held → IsDevice config → IsWithin (journal_region config.quota) extent
     → IfOk r (λ last. IsValid (state_of last)) → IfOk r (IsOf held) → IfOk r (λ last. IsSafe last extent)
-finished_safe config held extent (Ok last) new small within valid is_of =
+finished_safe config held extent (Ok last) new device within valid is_of =
     let region : last.journal.region ≡ journal_region config.quota = ap (λ (k : Kept). k.region) is_of.journal ∙ new.region in
     record {
       valid = valid;
       order = is_of.order;
-      quota = small_kept config held last new is_of small;
+      device = device_kept config held last new is_of device;
       region = region ∙ ap journal_region (sym (kept_quota config held last new is_of));
       within = subst (λ (r : Region). IsWithin r extent) (sym region) within;
     }
-finished_safe config held extent (Err e) new small within valid is_of = tt
+finished_safe config held extent (Err e) new device within valid is_of = tt
 
 module _ (image : List ℕ) where
   pub config_refused : (e : MountFault) → Loaded image (Err e) → LoadedAs image (Err e)

@@ -1,7 +1,10 @@
 -- What is held of an image once it was read, and when that is true of an image.
-use Rattle.std.specs.Prelude.{◌≡◌, ◌≤◌, ℕ, List, Result, Ok, Err}
+use Rattle.std.specs.Prelude.{◌≡◌, ◌≤◌, ℕ, List, length, Result, Ok, Err}
 use Rattle.base_types.specs.declared.limits.TheConstants.{QUOTA_LIMIT}
 use Rattle.journal_core.specs.Kept.{Fits, IsWithin}
+use Rattle.evidence.specs.Ids.{AreIds}
+use Rattle.hss_sign.specs.Params.{IsProperParams}
+use Rattle.device_config.specs.declared.config.TheConstants.{KEY_SEED_SIZE}
 use Rattle.device_config.specs.declared.config.Config.{Config}
 use Rattle.device_config.specs.declared.fault.MountFault.{MountFault}
 use Rattle.device_config.specs.declared.fault.MountFault.TheVariants.{BadImage, DiskFault, NoMemory}
@@ -33,12 +36,19 @@ pub record Holds (held : Held) (image : List ℕ) : Type 0 where
   pub fits : Fits held.journal image bodies
   pub leads : Leads (head_of held) bodies (state_of held)
 
--- What is so whatever a board tells: a device may be in the state, its rows are in order, the journal is that of the
+-- what a configuration is, whatever its anchors are: identifiers of 1 to 64 bytes, a quota within its limit, and the parameters and the seed of a key
+pub record IsDevice (config : Config) : Type 0 where
+  pub ids : AreIds config.device
+  pub quota : config.quota ≤ QUOTA_LIMIT
+  pub params : IsProperParams config.params
+  pub seed : length config.key_seed ≡ KEY_SEED_SIZE
+
+-- What is so whatever a board tells: a device may be in the state, its configuration is one, its rows are in order, the journal is that of the
 -- configuration and lies within an image of that length.
 pub record IsSafe (held : Held) (extent : ℕ) : Type 0 where
   pub valid : IsValid (state_of held)
   pub order : AreInOrder held.rows.items
-  pub quota : held.config.quota ≤ QUOTA_LIMIT
+  pub device : IsDevice held.config
   pub region : held.journal.region ≡ journal_region held.config.quota
   pub within : IsWithin held.journal.region extent
 

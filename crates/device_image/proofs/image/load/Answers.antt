@@ -3,7 +3,7 @@ use Rattle.std.proofs.lemmas.Result.{err_from_is_err_and}
 use Rattle.board_core.specs.Contents.{Disk}
 use Rattle.journal_core.specs.Kept.{Fits}
 use Rattle.device_image.specs.Replay.{BegunAs, FitsAlone}
-use Rattle.device_image.proofs.Loading.{small_quota, begun_new, begun_small, finished_safe, config_refused, begun_refused, finished_as}
+use Rattle.device_image.proofs.Loading.{is_device, small_quota, begun_new, begun_small, finished_safe, config_refused, begun_refused, finished_as}
 use Rattle.device_image.proofs.image.load.Goals as goal
 
 pub returns-in_err-config-clause-loaded : goal.returns-in_err-config-clause-loaded
@@ -42,4 +42,4 @@ finish-requires-clause-quota g c = begun_small c.in_ok-config.config c.in_ok-beg
 pub returns-clause-safe : goal.returns-clause-safe
 returns-clause-safe g c =
     finished_safe c.in_ok-config.config c.in_ok-begin.field-0 (g.B.Board.view c.args.board.now).extent c.finish.result c.in_ok-begin.ensures.new
-    (small_quota c.in_ok-config.config c.in_ok-config.ensures.config) c.in_ok-config.ensures.within c.finish.ensures.valid c.finish.ensures.is_of
+    (is_device c.in_ok-config.config c.in_ok-config.ensures.config) c.in_ok-config.ensures.within c.finish.ensures.valid c.finish.ensures.is_of

@@ -13,5 +13,5 @@ invariant_of-result c =
       safe = c.requires;
       heads_are = heads_are;
       weight_is = c.heads_weight-weight.ensures ∙ ap (λ (hs : List RowHead). capped (heads_weight hs)) (c.as_slice-2.ensures ∙ heads_are)
-          ∙ ap capped (heads_weigh_the_same c.args.held.rows.items) ∙ capped_small (rows_weight c.args.held.rows.items) (omega (arith, c.requires.valid.light, c.requires.quota));
+          ∙ ap capped (heads_weigh_the_same c.args.held.rows.items) ∙ capped_small (rows_weight c.args.held.rows.items) (omega (arith, c.requires.valid.light, c.requires.device.quota));
     }
