@@ -1,0 +1,3 @@
+mod Enveloped
+mod Identifiers
+mod Proper

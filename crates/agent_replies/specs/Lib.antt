@@ -1,0 +1,5 @@
+pub mod Envelope
+pub mod Parts
+pub mod Question
+pub mod Saying
+pub mod Signing
