@@ -1,9 +1,10 @@
 #!/usr/bin/env python3
 """Makes the image of a device and a question that its manager signed, with hashlib alone (RFC 8554, RFC 9052).
 
-It shares no line with the proved programs. `device.py DIR` writes `agent.img`, the image of a new device, and
-`question`, a frame for its agent, into DIR. Keys are of one level, height 5, width 8, from seeds of 32 bytes:
-11 the manager, 22 the author of manifests, 33 the device.
+It shares no line with the proved programs. `device.py DIR` writes into DIR `agent.img`, the image of a new device,
+`question`, a frame for its agent, `reply`, the frame by which the agent answers it at leaf 0, and `public`, the
+public key of the device. Keys are of one level, height 5, width 8, from seeds of 32 bytes: 11 the manager, 22 the
+author of manifests, 33 the device.
 """
 import os
 import sys
@@ -13,6 +14,7 @@ from hss import Tree, hashed, u
 
 PROTECTED = bytes.fromhex("a101382d")
 QUESTION = bytes.fromhex("8501a11448010203040506070881818212382d81822f382d02")
+RESPONSE = bytes.fromhex("8202a2060014480102030405060708")
 QUOTA = 16384
 
 
@@ -52,18 +54,36 @@ def image(manager, author):
     return top.ljust(65536, b"\0") + bytes(16 + 2 * (2 * QUOTA + 65536))
 
 
-def frame(manager, payload):
-    """A frame of kind 1 with the payload, signed at leaf 0: a tagged COSE_Sign1."""
-    signed = head(4, 4) + head(3, 10) + b"Signature1" + string(PROTECTED) + string(b"") + string(payload)
-    signature = u(0, 4) + manager.sign(0, signed)
-    message = head(6, 18) + array(string(PROTECTED), head(5, 0), string(payload), string(signature))
-    return b"\x01" + u(len(message), 4) + message
+def signed_text(payload):
+    """What a signature is of (RFC 9052, section 4.4)."""
+    return array(head(3, 10) + b"Signature1", string(PROTECTED), string(b""), string(payload))
+
+
+def signed(key, leaf, unprotected, payload):
+    """A tagged COSE_Sign1 (RFC 9052, section 4.2), signed at a leaf."""
+    signature = u(0, 4) + key.sign(leaf, signed_text(payload))
+    return head(6, 18) + array(string(PROTECTED), unprotected, string(payload), string(signature))
+
+
+def frame(kind, message):
+    return bytes([kind]) + u(len(message), 4) + message
+
+
+def question(manager, payload=QUESTION):
+    """A frame for an agent, signed by the manager at leaf 0."""
+    return frame(1, signed(manager, 0, head(5, 0), payload))
+
+
+def reply(device, leaf, payload=RESPONSE):
+    """A frame of an agent, with the number of the device as the key identifier, label 4."""
+    return frame(0x81, signed(device, leaf, head(5, 1) + head(0, 4) + string(b"\x64"), payload))
 
 
 def main():
     where = sys.argv[1]
-    manager, author = tree(0x11), tree(0x22)
-    for name, made in (("agent.img", image(manager, author)), ("question", frame(manager, QUESTION))):
+    manager, author, device = tree(0x11), tree(0x22), tree(0x33)
+    made = {"agent.img": image(manager, author), "question": question(manager), "reply": reply(device, 0), "public": u(1, 4) + device.public()}
+    for name, made in made.items():
         with open(os.path.join(where, name), "wb") as out:
             out.write(made)
 

@@ -1,4 +1,4 @@
-pub mod OneReply
-pub mod Proper
-pub mod Sizes
-pub mod There
+pub mod Tokens
+pub mod Hears
+pub mod OneTurn
+pub mod Turning

@@ -1,4 +1,8 @@
 pub mod Refusals
 pub mod Events
 pub mod Answers
-pub mod Replies
+pub mod Turns
+pub mod Views
+pub mod TurnLaw
+pub mod Hearing
+pub mod Saying

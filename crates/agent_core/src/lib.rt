@@ -1,20 +1,21 @@
-//! One turn of a device's agent: an event comes in, one reply goes out.
+//! One turn of a device's agent: an event comes in, one reply goes out, and what it changes is durable
+//! before.
 //!
-//! Nothing here reads or writes. The loop that takes frames from the input and sends the replies
-//! stands above.
+//! The loop that takes frames from the input and sends the replies stands in `turn_loop`, over the trait
+//! that an agent meets.
 #![tactic(auto)]
 
 mod agent;
 mod event;
-mod fault;
+mod hearing;
+mod leaf;
 mod refusal;
 mod reply;
-mod response;
+mod session;
 #[cfg(test)]
 mod tests;
 
-pub use agent::{Agent, one_reply};
+pub use agent::{Agent, one_turn};
 pub use event::{Event, event_of};
-pub use fault::AgentFault;
 pub use refusal::Refusal;
-pub use reply::Reply;
+pub use session::Session;

@@ -14,11 +14,13 @@ pub enum Refusal {
     NotMessage,
     /// The message is of a kind that no agent is sent.
     NotForAgent,
+    /// Every leaf of the device's key is used.
+    KeySpent,
 }
 
 impl Refusal {
     /// The number that the refusal is told by: 1 for `Kind`, 2 for `NotCose`, 3 for `NotSigned`, 4 for
-    /// `NotMessage`, 5 for `NotForAgent`.
+    /// `NotMessage`, 5 for `NotForAgent`, 6 for `KeySpent`.
     pub fn number(self) -> u8
         ensures { result ≡ number_of self }
     {
@@ -28,6 +30,7 @@ impl Refusal {
             Refusal::NotSigned => 3,
             Refusal::NotMessage => 4,
             Refusal::NotForAgent => 5,
+            Refusal::KeySpent => 6,
         }
     }
 }

@@ -1,5 +1,2 @@
-pub mod Looked
-pub mod Caused
-pub mod Looping
-pub mod Exactly
-pub mod Mounting
+mod Caused
+mod Mounting

@@ -1,4 +1,4 @@
-pub mod Turns
 pub mod Statuses
 pub mod Outcome
+pub mod Running
 pub mod Words

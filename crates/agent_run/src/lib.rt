@@ -1,9 +1,7 @@
-//! A run of a device's agent: frames are taken from the input and answered, one after the other.
-//!
-//! No byte behind the frame that is being answered is read.
+//! A run of a device's agent: the image is mounted, and then frames are taken from the input and answered,
+//! one after the other.
 #![tactic(auto)]
 
-mod looking;
 mod run;
 mod status;
 #[cfg(test)]

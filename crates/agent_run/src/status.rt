@@ -1,6 +1,8 @@
 ghost use Rattle.std.specs.Prelude.{◌≡◌};
 ghost use Rattle.agent_run.specs.Statuses.{number_of};
 
+use turn_loop::Stop;
+
 /// How a run ended.
 #[derive(Clone, Copy, Debug, Eq, PartialEq)]
 pub enum Status {
@@ -42,6 +44,26 @@ impl Status {
             Status::LongFrame => 8,
             Status::NoMemory => 9,
             Status::InputSpent => 10,
+        }
+    }
+}
+
+impl From<Stop> for Status {
+    ghost use Rattle.std.specs.Prelude.{◌≡◌};
+    ghost use Rattle.agent_run.specs.Statuses.{status_of};
+
+    ghost from_gives = { λ stop status. status ≡ status_of stop };
+
+    fn from(stop: Stop) -> Status {
+        match stop {
+            Stop::Whole => Status::Done,
+            Stop::Cut => Status::CutFrame,
+            Stop::Long => Status::LongFrame,
+            Stop::Spent => Status::InputSpent,
+            Stop::ReadFault => Status::ReadFault,
+            Stop::SendFault => Status::SendFault,
+            Stop::DiskFault => Status::DiskFault,
+            Stop::NoMemory => Status::NoMemory,
         }
     }
 }

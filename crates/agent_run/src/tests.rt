@@ -3,16 +3,11 @@ mod vectors;
 use crate::{Status, run_agent};
 use base_types::{FRAME_IN_LIMIT, List, Octets};
 use board_core::MemoryBoard;
-use device_config::{Config, image_of};
+use component_store::{AnyStore, Config, Store, image_of, mount};
 use std::alloc::Global;
 use std::test::Fail;
 use std::thread::Threads;
-use vectors::{CONFIG, QUESTION};
-
-// The frame with its answer [2, {6: 0, 20: h'0102030405060708'}].
-const RESPONSE: [u8; 20] = [
-    0x81, 0, 0, 0, 0x0f, 0x82, 0x02, 0xa2, 0x06, 0x00, 0x14, 0x48, 1, 2, 3, 4, 5, 6, 7, 8,
-];
+use vectors::{CONFIG, QUESTION, REPLY};
 
 // A frame with a question that the manager signed.
 fn question(alloc: Global) -> Result<Octets, Fail> {
@@ -27,15 +22,15 @@ fn image(alloc: Global) -> Result<Octets, Fail> {
 }
 
 // Runs the agent over a board whose reads give so many bytes at most, and whose calls of these
-// numbers fail: the status, and what was sent.
-fn run<R: Threads + Sync + AllocGlobal>(
+// numbers fail: the status, and the board.
+fn ran<R: Threads + Sync + AllocGlobal>(
     rt: &R,
     words: &[&str],
     image: Octets,
     piece: usize,
     failing: &[u64],
     input: &[u8],
-) -> Result<(Status, Octets), Fail> {
+) -> Result<(Status, MemoryBoard), Fail> {
     let alloc = rt.alloc();
     let mut line = Vec::new(alloc);
     for word in words {
@@ -44,7 +39,20 @@ fn run<R: Threads + Sync + AllocGlobal>(
     let input = Octets::from_slice(alloc, input)?;
     let failing = List::from_vec(Vec::from_slice(alloc, failing)?);
     let mut board = MemoryBoard::new(alloc, input, image, piece.max(1), failing)?;
-    let status = run_agent(rt, alloc, &line, &mut board);
+    let status = run_agent(rt, &line, &mut board);
+    Ok((status, board))
+}
+
+// The same: the status, and what was sent.
+fn run<R: Threads + Sync + AllocGlobal>(
+    rt: &R,
+    words: &[&str],
+    image: Octets,
+    piece: usize,
+    failing: &[u64],
+    input: &[u8],
+) -> Result<(Status, Octets), Fail> {
+    let (status, board) = ran(rt, words, image, piece, failing, input)?;
     let (sent, _) = board.crash(board.calls(), 0)?;
     Ok((status, sent))
 }
@@ -57,9 +65,9 @@ fn inputs_have_their_output_and_status(rt: HostRuntime) -> Result<(), Fail> {
     let mut two = Octets::from_slice(alloc, &[9, 0, 0, 0, 1, 7])?;
     two.extend(question)?;
     let mut replies = Octets::from_slice(alloc, &[0x82, 0, 0, 0, 1, 1])?;
-    replies.extend(&RESPONSE)?;
+    replies.extend(&REPLY)?;
     let table: [(&[u8], &[u8], u8); 6] = [
-        (question, &RESPONSE, 0),
+        (question, &REPLY, 0),
         (&[], &[], 0),
         (question.get(..12).unwrap_or(&[]), &[], 7),
         (&[1, 0x01, 0x00, 0x00, 0x01], &[], 8),
@@ -101,16 +109,25 @@ fn a_body_of_the_limit_is_read(rt: HostRuntime) -> Result<(), Fail> {
 fn words_and_faults_have_their_status(rt: HostRuntime) -> Result<(), Fail> {
     let alloc = rt.alloc();
     let question = question(alloc)?;
-    // the image is loaded by call 0, the head and the body are read by 1 and 2, and 3 is the send
-    let table: [(&[&str], &[u64], u8, &[u8]); 8] = [
-        (&["run"], &[], 0, &RESPONSE),
+    // a sync and three loads mount the image, the head and the body are read by 4 and 5, the leaf is used by two puts with
+    // a sync each, and 10 is the send
+    let table: [(&[&str], &[u64], u8, &[u8]); 11] = [
+        (&["run"], &[], 0, &REPLY),
         (&["run", "run"], &[], 2, &[]),
         (&[], &[], 2, &[]),
         (&["runs"], &[], 2, &[]),
         (&["run"], &[0], 6, &[]),
-        (&["run"], &[1], 4, &[]),
-        (&["run"], &[2], 4, &[]),
-        (&["run"], &[3], 5, RESPONSE.get(..10).unwrap_or(&[])),
+        (&["run"], &[3], 6, &[]),
+        (&["run"], &[4], 4, &[]),
+        (&["run"], &[5], 4, &[]),
+        (&["run"], &[6], 6, &[]),
+        (&["run"], &[9], 6, &[]),
+        (
+            &["run"],
+            &[10],
+            5,
+            REPLY.get(..REPLY.len() / 2).unwrap_or(&[]),
+        ),
     ];
     for (at, (words, failing, number, want)) in table.iter().enumerate() {
         let (status, sent) = run(
@@ -140,5 +157,52 @@ fn another_image_is_bad(rt: HostRuntime) -> Result<(), Fail> {
         assert_eq!(rt; status.number(), 3);
         assert!(rt; sent.is_empty());
     }
+    Ok(())
+}
+
+fn leaf(store: AnyStore) -> u64 {
+    store.leaf()
+}
+
+// How many leaves are used in an image.
+fn leaf_of(alloc: Global, image: Octets) -> Result<u64, Fail> {
+    let mut board = MemoryBoard::new(alloc, Octets::new(alloc), image, 1, List::new(alloc))?;
+    Ok(leaf(mount(alloc, &mut board)?))
+}
+
+// Whether a stop in this call leaves as many leaves used as replies have begun, or one more.
+fn is_kept(alloc: Global, board: &MemoryBoard, call: u64, mode: u8) -> Result<bool, Fail> {
+    let (sent, image) = board.crash(call, mode.min(3))?;
+    let begun = (sent.len() / REPLY.len() + usize::from(sent.len() % REPLY.len() > 0)) as u64;
+    let leaf = leaf_of(alloc, image)?;
+    Ok(leaf == begun || leaf == begun.saturating_add(1))
+}
+
+// In how many modes of stops in all calls of a run that is so.
+fn count_kept(alloc: Global, board: &MemoryBoard) -> Result<u64, Fail> {
+    let mut good: u64 = 0;
+    for call in 0..board.calls() {
+        for mode in 0..4 {
+            if is_kept(alloc, board, call, mode)? {
+                good = good.saturating_add(1);
+            }
+        }
+    }
+    Ok(good)
+}
+
+#[test]
+fn a_run_is_stopped_anywhere(rt: HostRuntime) -> Result<(), Fail> {
+    let alloc = rt.alloc();
+    let mut input = question(alloc)?;
+    input.extend(question(alloc)?.as_slice())?;
+    let (status, board) = ran(&rt, &["run"], image(alloc)?, 4096, &[], input.as_slice())?;
+    assert_eq!(rt; status, Status::Done);
+    // four calls mount, each question is read by two, committed by four and answered by one, and one read finds the end
+    assert_eq!(rt; board.calls(), 19);
+    assert_eq!(rt; count_kept(alloc, &board)?, 76);
+    let (sent, image) = board.crash(board.calls(), 0)?;
+    assert_eq!(rt; sent.len(), 2 * REPLY.len());
+    assert_eq!(rt; leaf_of(alloc, image)?, 2);
     Ok(())
 }

@@ -1,54 +1,40 @@
-// One event is answered.
-ghost use Rattle.std.specs.Prelude.{◌≡◌};
-ghost use Rattle.agent_core.specs.Events.{event_by};
-ghost use Rattle.board_core.specs.Contents.{SameDisk};
-ghost use Rattle.agent_run.specs.Turns.{Turns, TurnCause};
+// One frame is answered.
+ghost use Rattle.std.specs.Prelude.{◌≡◌, IsTrue};
+ghost use Rattle.board_core.specs.Contents.{NothingPending};
+ghost use Rattle.turn_loop.specs.Turns.{Turned, TurnCause};
+ghost use Rattle.agent_core.specs.Turns.{Turn, StandsFor};
+ghost use Rattle.agent_core.specs.Views.{standing};
 
-use agent_core::{Agent, Event, event_of};
+use agent_core::Agent;
 use base_types::Octets;
 use board_core::Board;
-use std::alloc::Global;
+use component_store::Store;
+use std::thread::Threads;
+use turn_loop::{Answer, TurnFault};
 
-/// How the answer to an event ended.
-#[derive(Clone, Copy, Debug, Eq, PartialEq)]
-pub enum Turn {
-    /// The reply is sent.
-    Sent,
-    /// The send failed: a front of the reply may be sent.
-    SendFault,
-    /// There was no memory for the reply: nothing is sent.
-    NoMemory,
-}
-
-/// Answers one frame: the reply to its event goes to the output. The agent stays as it was.
-pub fn answer<B: Board>(
-    alloc: Global,
-    agent: &mut Agent,
+/// Answers one frame: the agent takes its turn, and then the reply goes to the output.
+pub(crate) fn answer<R: Threads + AllocGlobal + Sync, S: Store, B: Board>(
+    rt: &R,
+    agent: &mut Agent<S>,
     board: &mut B,
     kind: u8,
     body: Octets,
-) -> Turn
-    ensures sent { B.told → Turns agent.old.anchors (event_by kind body) (B.view board.old).now.stream (B.view board.new).now.stream result }
-    ensures agent { agent.new ≡ agent.old }
-    ensures disk { B.told → SameDisk (B.view board.old) (B.view board.new) }
+) -> Answer
+    requires live { IsTrue (agent.old.live) }
+    requires extent { (B.view board.old).extent ≡ S.extent agent.old.store }
+    ensures turned { B.told → NothingPending (B.view board.old) → S.keeps agent.old.store (B.view board.old).now.disk.bytes →
+        Turned Turn StandsFor (standing S.state agent.old) (record { kind = kind; body = body }) (standing S.state agent.new) (S.keeps agent.new.store) (B.view board.old) (B.view board.new) result }
+    ensures live { result ≡ Answer.Sent → IsTrue (agent.new.live) }
+    ensures extent { S.extent agent.new.store ≡ S.extent agent.old.store }
     ensures cause { TurnCause result (B.view board.old) (B.view board.new) }
 {
-    let event = event_of(kind, body);
-    answer_event(alloc, agent, board, &event)
-}
-
-// Answers one event: the agent's reply, and then its frame to the output.
-fn answer_event<B: Board>(alloc: Global, agent: &mut Agent, board: &mut B, event: &Event) -> Turn
-    ensures sent { B.told → Turns agent.old.anchors event.now (B.view board.old).now.stream (B.view board.new).now.stream result }
-    ensures agent { agent.new ≡ agent.old }
-    ensures disk { B.told → SameDisk (B.view board.old) (B.view board.new) }
-    ensures cause { TurnCause result (B.view board.old) (B.view board.new) }
-{
-    let Ok(reply) = agent.deliver(alloc, event) else {
-        return Turn::NoMemory;
+    let reply = match agent.deliver(rt, board, kind, body) {
+        Ok(reply) => reply,
+        Err(TurnFault::DiskFault) => return Answer::DiskFault,
+        Err(TurnFault::NoMemory) => return Answer::NoMemory,
     };
-    match board.send(reply.frame.as_slice()) {
-        Ok(()) => Turn::Sent,
-        Err(_) => Turn::SendFault,
+    match board.send(reply.as_slice()) {
+        Ok(()) => Answer::Sent,
+        Err(_) => Answer::SendFault,
     }
 }

@@ -15,6 +15,6 @@ fn main(rt: HostRuntime) -> ExitCode {
         Err(WordsFault::NoMemory) => return ExitCode::from(Status::NoMemory.number()),
     };
     let mut board = FileBoard::new(&rt, "agent.img");
-    let status = run_agent(&rt, rt.alloc(), &words, &mut board);
+    let status = run_agent(&rt, &words, &mut board);
     ExitCode::from(status.number())
 }
