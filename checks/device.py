@@ -45,9 +45,9 @@ def anchor(key):
     return string(bytes.fromhex("a3010503382d20") + string(u(1, 4) + key.public()))
 
 
-def image(manager, author):
-    """The head with the configuration, and a journal of zeros."""
-    numbers = [head(0, n) for n in (QUOTA, 1, 5, 8)]
+def image(manager, author, params=(1, 5, 8)):
+    """The head with the configuration, whose key has these levels, height and width, and a journal of zeros."""
+    numbers = [head(0, n) for n in (QUOTA, *params)]
     anchors = array(array(anchor(manager)), array(anchor(author)))
     config = array(string(b"\xaa"), string(b"\xbb"), string(b"\x64"), *numbers, string(b"\x33" * 32), anchors)
     top = b"TEEPIMG1" + u(1, 4) + u(len(config), 4) + config
