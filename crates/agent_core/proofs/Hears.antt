@@ -1,5 +1,5 @@
 -- What is heard, from one part of an event to the next.
-use Rattle.std.proofs.Common.{◌≡◌, ◌⊎◌, ◌<◌, ℕ, List, [], ◌∷◌, refl, sym, ◌∙◌, ap, subst, inl, inr, arith}
+use Rattle.std.proofs.Common.{◌≡◌, ◌⊎◌, ◌<◌, ℕ, List, [], ◌∷◌, refl, ◌∙◌, ap, subst, inl, inr, arith}
 use Rattle.std.specs.Prelude.{Bool, false, ◌==◌, Option, Some, None, Result, Ok, Err, IfOk, option_map}
 use Rattle.std.specs.List.{AllByRecursion}
 use Rattle.std.proofs.lemmas.Bool.{ne_eqb}
@@ -7,14 +7,12 @@ use Rattle.base_types.specs.declared.memory.NoMemory.{NoMemory}
 use Rattle.cbor_core.specs.declared.item.Item.{Item}
 use Rattle.cbor_fields.specs.Views.{IsIdentifier}
 use Rattle.cose_core.specs.declared.sign1.Sign1.{Sign1}
-use Rattle.evidence.specs.declared.ids.DeviceIds.{DeviceIds}
 use Rattle.hss_sign.specs.Params.{capacity}
 use Rattle.teep_messages.specs.declared.fault.MessageFault.{MessageFault}
 use Rattle.teep_messages.specs.declared.fault.MessageFault.TheVariants as faults
 use Rattle.teep_messages.specs.declared.operation.Operation.{Operation}
 use Rattle.teep_messages.specs.declared.options.Options.{Options}
 use Rattle.teep_messages.specs.Messages.{MessageIs, RefusedAs}
-use Rattle.trust_anchors.specs.declared.anchors.Anchors.{Anchors}
 use Rattle.trust_anchors.specs.declared.role.Role.TheVariants as role
 use Rattle.trust_anchors.specs.Verified.{Verified, VerifiedBy}
 use Rattle.device_config.specs.declared.config.Config.{Config}

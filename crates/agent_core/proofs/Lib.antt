@@ -2,3 +2,14 @@ pub mod Tokens
 pub mod Hears
 pub mod OneTurn
 pub mod Turning
+pub mod LeavesAscend
+pub mod Short
+pub mod SignatureBytes
+pub mod Spellings
+pub mod Identifiers
+pub mod Told
+pub mod Fields
+pub mod Manifests
+pub mod Sayable
+pub mod SomeTurn
+pub mod Ranges

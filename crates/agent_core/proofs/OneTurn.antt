@@ -1,5 +1,5 @@
 -- A frame leads to one standing and one reply at most.
-use Rattle.std.proofs.Common.{◌≡◌, ◌⊎◌, List, ℕ, refl, sym, ◌∙◌, ap, subst, inl, inr}
+use Rattle.std.proofs.Common.{◌≡◌, ◌⊎◌, List, ℕ, sym, ◌∙◌, ap, subst, inl, inr}
 use Rattle.std.specs.Prelude.{Option, Some, None}
 use Rattle.cbor_core.specs.Spelling.{spelling}
 use Rattle.cose_core.specs.declared.sign1.Sign1.{Sign1}
@@ -13,7 +13,7 @@ use Rattle.agent_replies.specs.Signing.{signed}
 use Rattle.agent_core.specs.declared.event.Event.{Event}
 use Rattle.agent_core.specs.declared.event.Event.TheVariants.{Message, Payload, FetchFailed, Strange}
 use Rattle.agent_core.specs.Answers.{Answer, Refused, Says, Answers, AnswersBytes, RefusesBytes, AnswersSigned, RefusesUnsigned, AnswersContent, AnswersEnvelope, RefusesEnvelope, message_answer}
-use Rattle.agent_core.specs.Turns.{Standing, Turn, Leads, IsSaid, message_frame, key_of}
+use Rattle.agent_core.specs.Turns.{Standing, Leads, IsSaid, message_frame, key_of}
 use Rattle.agent_core.specs.Events.{event_in}
 use Rattle.agent_core.specs.TurnLaw.{OneTurn}
 

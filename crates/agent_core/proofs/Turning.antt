@@ -1,13 +1,12 @@
 -- What was heard, and what came of it, is a turn.
-use Rattle.std.proofs.Common.{◌≡◌, ◌⊎◌, List, ℕ, refl, sym, ap, subst, inl, inr}
+use Rattle.std.proofs.Common.{◌≡◌, List, ℕ, refl, sym, ap, subst, inl, inr}
 use Rattle.std.specs.Prelude.{Result, Ok, Err, IfOk, OnOk}
 use Rattle.board_core.specs.Contents.{View}
 use Rattle.board_core.specs.Moments.{Passes}
 use Rattle.board_core.proofs.Public.Chaining.{widened}
 use Rattle.frames.specs.Frames.{Frame, frame_bytes}
-use Rattle.device_image.specs.Stands.{Stands}
-use Rattle.device_state.specs.State.{State, next}
-use Rattle.turn_loop.specs.Turning.{TurnsTo, WithinTurn, StandsBehind}
+use Rattle.device_state.specs.State.{next}
+use Rattle.turn_loop.specs.Turning.{TurnsTo, WithinTurn}
 use Rattle.agent_core.specs.declared.event.Event.{Event}
 use Rattle.agent_core.specs.declared.refusal.Refusal.{Refusal}
 use Rattle.agent_core.specs.declared.session.Session.{Session}
@@ -15,7 +14,7 @@ use Rattle.agent_core.specs.declared.hearing.Heard.TheVariants as heard
 use Rattle.agent_core.specs.Answers.{Answer, Refused, Says, Answers}
 use Rattle.agent_core.specs.Events.{event_in}
 use Rattle.agent_core.specs.Hearing.{Hears, HeardIs}
-use Rattle.agent_core.specs.Saying.{Carries, IsUsed, WithinSaying}
+use Rattle.agent_core.specs.Saying.{Carries, WithinSaying}
 use Rattle.agent_core.specs.Turns.{Standing, Turn, EventTurn, StandsFor, message_frame, refusal_frame}
 
 -- a standing with one leaf more used, and this session

@@ -4,5 +4,6 @@ pub mod Answers
 pub mod Turns
 pub mod Views
 pub mod TurnLaw
+pub mod Leaves
 pub mod Hearing
 pub mod Saying

@@ -1,9 +1,8 @@
 -- An agent as contracts see it.
-use Rattle.std.specs.Prelude.{◌≡◌, Bool}
-use Rattle.hss_sign.specs.Kept.{HssKey}
+use Rattle.std.specs.Prelude.{Bool}
 use Rattle.device_state.specs.State.{State}
 use Rattle.agent_core.specs.declared.session.Session.{Session}
-use Rattle.agent_core.specs.Turns.{Standing, key_of}
+use Rattle.agent_core.specs.Turns.{Standing}
 
 -- its store, its session, and whether it may be handed events
 pub record AgentView (S : Type 0) : Type 0 where

@@ -8,7 +8,6 @@ ghost use Rattle.turn_loop.specs.Turning.{TurnsTo, WithinTurn};
 ghost use Rattle.agent_core.specs.Events.{event_in};
 ghost use Rattle.agent_core.specs.Hearing.{HasLeaf};
 ghost use Rattle.agent_core.specs.Saying.{Carries, WithinSaying};
-ghost use Rattle.agent_core.specs.TurnLaw.{OneTurn};
 ghost use Rattle.agent_core.specs.Turns.{refusal_frame};
 ghost use Rattle.agent_core.specs.declared.session.Session.TheVariants as sessions;
 
@@ -213,8 +212,3 @@ impl<S: Store> Agent<S> {
         Ok(reply)
     }
 }
-
-/// A frame leads to one standing and one reply at most.
-pub fn one_turn()
-    ensures { OneTurn }
-{}

@@ -8,6 +8,7 @@
 mod agent;
 mod event;
 mod hearing;
+mod laws;
 mod leaf;
 mod refusal;
 mod reply;
@@ -15,7 +16,8 @@ mod session;
 #[cfg(test)]
 mod tests;
 
-pub use agent::{Agent, one_turn};
+pub use agent::Agent;
 pub use event::{Event, event_of};
+pub use laws::{leaves_ascend, one_turn};
 pub use refusal::Refusal;
 pub use session::Session;

@@ -1,10 +1,11 @@
-use crate::{Event, event_of, one_turn};
+use crate::{Event, event_of, leaves_ascend, one_turn};
 use base_types::Octets;
 use std::test::Fail;
 
 #[test]
 fn frames_are_events(rt: HostRuntime) -> Result<(), Fail> {
     one_turn();
+    leaves_ascend();
     let alloc = rt.alloc();
     let body = Octets::from_slice(alloc, &[9])?;
     let copy = body.try_clone(alloc)?;
