@@ -64,6 +64,20 @@ class Questions(Task):
         self.best[rounds] = min(spent, self.best.get(rounds, spent))
 
 
+class Start(Questions):
+    """An agent over a new image, which is asked nothing: what a start costs, the process itself with it."""
+
+    def __init__(self, image):
+        super().__init__(image, b"", 0)
+
+    def turn(self):
+        self.run(0)
+
+    @property
+    def one(self):
+        return self.best[0]
+
+
 def taking_turns(*tasks):
     for _ in range(TURNS):
         for task in tasks:
@@ -118,6 +132,12 @@ def question(where):
     print(f"a signed question: {whole * 1e6:.0f} us; verification {verify * 1e6:.0f}, signature {sign * 1e6:.0f}, commit {commit * 1e6:.0f}: {whole / parts:.3f} times their sum")
 
 
+def start():
+    """A start of the agent against the growing of its trees by as many workers."""
+    whole, grown = taking_turns(Start(device.image(device.tree(0x11), device.tree(0x22), PARAMS)), Task(hss.PROGRAM, "grow_by_four", 3))
+    print(f"a start of the agent, key of two levels, height 10, width 4: {whole * 1e3:.0f} ms, its trees grown by four workers {grown * 1e3:.0f} ms: {whole / grown:.3f} times")
+
+
 if __name__ == "__main__":
     for program in (hss.PROGRAM, UPPER, AGENT):
         if not os.path.exists(program):
@@ -128,3 +148,4 @@ if __name__ == "__main__":
         exchanges()
         stores(where)
         question(where)
+        start()
