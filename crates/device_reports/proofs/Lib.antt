@@ -1,0 +1,6 @@
+mod Looks
+mod Going
+mod Owners
+mod Same
+mod Placing
+mod Ordered
