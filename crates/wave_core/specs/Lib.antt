@@ -1,0 +1,5 @@
+pub mod Ledger
+pub mod Waves
+pub mod Book
+pub mod Counting
+pub mod Law
