@@ -97,7 +97,7 @@ module _ (device : List ℕ) (t u : List ℕ → Bool) (others : (x : List ℕ) 
         | inl here ↦ (
             let alone : among device (all_devices ss) ≡ false = one_side device s.devices (all_devices ss) apart here in
             let first : count_by u s.devices ≡ one_more (length s.devices) (count_by t s.devices)
-                = one_within s.devices (count_with s.devices here (left s.devices (all_devices ss) apart)) in
+            = one_within s.devices (count_with s.devices here (left s.devices (all_devices ss) apart)) in
             ap (λ (n : ℕ). n ∷ counted u ss) first ∙ ap (λ (ns : List ℕ). one_more (length s.devices) (count_by t s.devices) ∷ ns) (counted_without ss alone)
             ∙ sym (ap (λ (b : Bool). at_place (s ∷ ss) (cond (not b) (1 + later) 0)) here)
             )

@@ -29,7 +29,7 @@ module _ (ledger : Ledger) (wave : Wave) where
   open_in place counts is =
       let front : take place counts ≡ map (recorded ledger wave) (take place wave.steps) = ap (take place) is ∙ take-map (recorded ledger wave) place wave.steps in
       let test : are_enough (take place wave.steps) (take place counts) ≡ are_enough (take place wave.steps) (map (recorded ledger wave) (take place wave.steps))
-          = ap (are_enough (take place wave.steps)) front in (
+      = ap (are_enough (take place wave.steps)) front in (
         λ yes. All-from_recursion (IsDone ledger wave) (take place wave.steps) (enough_done (take place wave.steps) (sym test ∙ yes)),
         λ done. test ∙ done_enough (take place wave.steps) (recursion_from_All (IsDone ledger wave) (take place wave.steps) done),
       )

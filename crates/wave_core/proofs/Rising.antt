@@ -54,7 +54,7 @@ module _ (ledger : Ledger) (device id : List ℕ) (before : Option ℕ) (after :
 
     by_both : (this crossed : Bool) → same_bytes wave.id id ≡ this → crosses wave.sequence before after ≡ crossed → IsProperWave wave
         → counts_of (raised device id after ledger) wave
-          ≡ cond (this && crossed) (more_at (place_in wave device) (size_at wave.steps (place_in wave device)) (counts_of ledger wave)) (counts_of ledger wave)
+        ≡ cond (this && crossed) (more_at (place_in wave device) (size_at wave.steps (place_in wave device)) (counts_of ledger wave)) (counts_of ledger wave)
     by_both false crossed other is proper =
         counted_agree (λ x. reaches wave.sequence (ledger x wave.id)) (λ x. reaches wave.sequence (raised device id after ledger x wave.id))
         (λ x. ap (reaches wave.sequence) (other_id x wave.id other)) wave.steps

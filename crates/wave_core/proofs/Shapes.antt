@@ -37,7 +37,7 @@ module _ (device id : List ℕ) (before : Option ℕ) (after : ℕ) where
 
   pub noted_more : (ws : List Wave) (all : List (List ℕ)) (k : ℕ) (w : Wave) (ns : List ℕ) → k < length ws → k < length all → w ≡ get_or ws k w → ns ≡ get_or all k ns
       → take (k + 1) (set all k (noted_in device id before after w ns)) ++ noted device id before after (drop (k + 1) ws) (drop (k + 1) (set all k (noted_in device id before after w ns)))
-        ≡ take k all ++ noted device id before after (drop k ws) (drop k all)
+      ≡ take k all ++ noted device id before after (drop k ws) (drop k all)
   noted_more ws all k w ns in_waves in_counts w_is ns_is =
       let y : List ℕ = noted_in device id before after w ns in
       let rest : List (List ℕ) = noted device id before after (drop (k + 1) ws) (drop (k + 1) all) in

@@ -30,9 +30,9 @@ returns-in-Some c = λ ledger stands.
     let wave_is : wave ≡ get_or waves number wave = c.index-waves-number.is ∙ ap (λ (ws : List Wave). get_or ws number wave) c.as_slice-waves.ensures in
     let then : StandsFor (record { waves = waves; counts = c.self.inside.counts.items }) ledger = subst (λ (book : Book). StandsFor book ledger) (sym c.self.view_is) stands in
     let counts : c.as_slice.result.now ≡ map (recorded ledger wave) wave.steps
-        = c.as_slice.ensures ∙ counts_there ledger waves c.self.inside.counts.items number wave c.index.result.now then.counts at.within wave_is c.index.ensures in
+    = c.as_slice.ensures ∙ counts_there ledger waves c.self.inside.counts.items number wave c.index.result.now then.counts at.within wave_is c.index.ensures in
     let here : IsTrue c.is_open_in.result ↔ IsOpenIn wave ledger device = told ledger wave c.is_open_in.result (place_in wave device) c.as_slice.result.now c.is_open_in.ensures counts in
     let all : IsOpenIn wave ledger device ↔ Open waves ledger c.args.class.now c.args.id.now device
-        = open_at waves c.self.invariant.proper ledger c.args.class.now c.args.id.now device number wave at wave_is in
+    = open_at waves c.self.invariant.proper ledger c.args.class.now c.args.id.now device number wave at wave_is in
     subst (λ (book : Book). IsTrue c.is_open_in.result ↔ Open book.waves ledger c.args.class.now c.args.id.now device) c.self.view_is
     (λ passes. all.0 (here.0 passes), λ is_open. here.1 (all.1 is_open))

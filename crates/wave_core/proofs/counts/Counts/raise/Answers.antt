@@ -10,7 +10,7 @@ returns-then-index-most c =
     let items = c.self.inside.counts.items in
     let within : c.args.step < length items = omega arith in
     let same : c.index.result.now ≡ c.index_mut.result.now
-        = c.index.ensures ∙ get_or_default items c.args.step c.index.result.now c.index_mut.result.now within ∙ sym c.index_mut.ensures.value in
+    = c.index.ensures ∙ get_or_default items c.args.step c.index.result.now c.index_mut.result.now within ∙ sym c.index_mut.ensures.value in
     more_there c.args.step c.args.most c.index_mut.result.now items within c.index_mut.ensures.value (omega (arith, same)) ∙ ap (more_at c.args.step c.args.most) c.self.view_is
 
 pub returns-else-step-len : goal.returns-else-step-len
