@@ -1,0 +1,9 @@
+pub mod Stages
+pub mod Printing
+pub mod Subjects
+pub mod Claims
+pub mod Testing
+pub mod Openings
+pub mod Judging
+pub mod Answers
+pub mod Law
