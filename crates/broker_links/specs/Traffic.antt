@@ -2,6 +2,7 @@
 use Rattle.std.specs.Prelude.{◌≡◌, ◌⊎◌, ◌/◌, ◌++◌, ℕ, Bool, false, IsTrue, List, [], length, take, drop}
 use Rattle.outside_core.specs.Stream.{Stream}
 
+-- what comes in, how much of it was taken, and what was written
 pub record Traffic : Type 0 where
   -- all that reads may give, from the beginning on
   pub input : List ℕ
